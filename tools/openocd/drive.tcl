@@ -5,34 +5,6 @@ gdb_port disabled
 telnet_port disabled
 tcl_port disabled
 
-set failures 0
-
-# One answer. A command that fails answers its message.
-proc check {name wanted command} {
-    global failures
-    if {[catch {uplevel #0 $command} got]} { set got "error: $got" }
-    set got [string trim $got]
-    if {$got eq $wanted} {
-        echo "ok $name"
-    } else {
-        incr failures
-        echo "FAILED $name: '$got' and not '$wanted'"
-    }
-}
-
-# The values of registers, as numbers in hexadecimal without leading zeros.
-proc regs {args} {
-    set values {}
-    foreach {name value} [get_reg -force $args] { lappend values [format 0x%llx $value] }
-    return $values
-}
-
-# Goes on until the next stop.
-proc go {} {
-    resume
-    wait_halt 5000
-}
-
 # Whether t0 of the running hart grows: a halt later it holds more than before.
 proc grows {} {
     set before [regs t0]
@@ -84,6 +56,13 @@ proc drive {hart} {
     # A breakpoint at the add behind the load: the hart runs from 0x80000008, stores t0 = 42 there, and stops before the add, with t3 still 1041.
     # One turn of the loop later t0 is 43 and t3 is 1041 + 42 = 1083.
     check "hardware breakpoint" "0x80000014 0x2a 0x2a 0x411" {bp 0x80000014 4 hw; go; regs pc t0 t2 t3}
+    # The trigger that stopped it is slot 0: of type 6 with its hit at bit 22, and of release 0.13 of type 2 with its hit at bit 20.
+    check "the breakpoint's type, and its hit" [expr {$RELEASE eq "0.13" ? "2 1" : "6 1"}] {
+        set_reg {tselect 0}
+        set tdata1 [regs tdata1]
+        set type [expr {$tdata1 >> 60 & 15}]
+        list $type [expr {$tdata1 >> ($type == 2 ? 20 : 22) & 1}]
+    }
     check "hardware breakpoint again" "0x80000014 0x2b 0x2b 0x43b" {go; regs pc t0 t2 t3}
     # dcsr.cause, bits 8 to 6, is 2 for a trigger.
     check "cause of the breakpoint" 2 {expr {([regs dcsr] >> 6) & 7}}
@@ -199,7 +178,9 @@ proc drive_chain {devices} {
     check "and its harts answer" 0x8000000000001101 {targets chip.cpu0; regs misa}
 }
 
+# dmstatus names the release: 2 is 0.13, and 3 is 1.0.
 init
+check "version of the debug module" [expr {$RELEASE eq "0.13" ? 2 : 3}] {expr {[riscv dmi_read 0x11] & 15}}
 for {set hart 0} {$hart < $HARTS} {incr hart} {
     targets chip.cpu$hart
     halt

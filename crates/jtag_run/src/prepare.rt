@@ -119,7 +119,7 @@ pub fn load_chip(
     ensures cause { IfErr result (LoadCause image.now options.now) }
     ensures kept { OnErr result (bench.new ≡ bench.old) }
 {
-    let loaded = bench.load_with_limit(
+    let loaded = bench.load_as(
         alloc,
         image,
         options.harts,
@@ -127,6 +127,7 @@ pub fn load_chip(
         start_of(options.halted),
         schedule_of(options),
         options.events,
+        options.version,
     );
     match loaded {
         Ok(()) => Ok(()),

@@ -1,7 +1,6 @@
 -- A chip as it was loaded, of which no answer is unread, may be operated.
 use Rattle.std.proofs.Common.{◌≡◌, ℕ, List, [], Option, Some, None, refl, sym, subst, inl}
 use Rattle.rv_model.specs.declared.version.Version.{Version}
-use Rattle.rv_model.specs.declared.version.Version.TheVariants.{V10}
 use Rattle.rv_model.specs.Board.{Board}
 use Rattle.debug_model.specs.Chip.{Live}
 use Rattle.debug_model.specs.Dmi.{CanOperate}
@@ -23,4 +22,4 @@ pub loaded_operates : (told : Option Far) → IsAsLoaded told → IsRead told �
 loaded_operates None loaded read = record { unended = tt; read = tt; free = tt; rest = tt; clean = tt }
 loaded_operates (Some f) loaded read =
     subst (λ (l : Live). CanOperate (Some (record { live = l; unread = f.unread }))) (sym loaded.is)
-    (operates_at V10 (loaded_board V10 loaded.image loaded.harts loaded.ram loaded.halted) loaded.plan loaded.most_points f.unread read)
+    (operates_at loaded.version (loaded_board loaded.version loaded.image loaded.harts loaded.ram loaded.halted) loaded.plan loaded.most_points f.unread read)

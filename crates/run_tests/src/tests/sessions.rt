@@ -121,6 +121,29 @@ x9 0x0000000000000022
 ",
 };
 
+/// The machine software interrupt in vectored mode, which a step takes, and a break that stops the hart before it (RISC-V Privileged Specification,
+/// "Machine Trap-Vector Base-Address Register"). With one hart there is one MSIP word.
+const INTERRUPTED: Row = Row {
+    image: PROGRAM,
+    script: b"reg mtvec 0x80000041\nreg mie 8\nreg mstatus 8\nwrite 4 0x2000000 0xff\nread 4 0x2000000\nread 4 0x2000004\nbreak 0x80000000\nresume\n\
+wait\nstep\nreg mcause\nreg mepc\nreg mstatus\n",
+    status: 1,
+    printed: "mtvec 0x0000000080000041
+mie 0x0000000000000008
+mstatus 0x0000000000001808
+wrote 1
+0x0000000002000000 0x00000001
+error: memory fault at 0x0000000002000004
+slot 0 break 0x0000000080000000
+resumed
+halted at 0x0000000080000000 by trigger 0
+halted at 0x000000008000004c by step
+mcause 0x8000000000000003
+mepc 0x0000000080000000
+mstatus 0x0000000000001880
+",
+};
+
 /// The rows that each way to a chip has to give alike.
 pub const ROWS: [Row; 4] = [STEPPED, STOPPED, FAULTY, FAULTY_BUS];
 
@@ -143,11 +166,21 @@ pub fn check_row<N: FarSide>(
 }
 
 #[test]
+fn software_interrupts_print_their_lines(rt: HostRuntime) -> Result<(), Fail> {
+    let alloc = rt.alloc();
+    for more in ["", "--v013", "--busy 32", "--v013 --chain 4,t"] {
+        check_row(&rt, alloc, more, &INTERRUPTED, &mut quiet_net(alloc)?)?;
+    }
+    Ok(())
+}
+
+#[test]
 fn rows_print_their_lines(rt: HostRuntime) -> Result<(), Fail> {
     let alloc = rt.alloc();
     for row in ROWS {
         check_row(&rt, alloc, "", &row, &mut quiet_net(alloc)?)?;
         check_row(&rt, alloc, "--piece 1", &row, &mut quiet_net(alloc)?)?;
+        check_row(&rt, alloc, "--v013", &row, &mut quiet_net(alloc)?)?;
         let slow = check_row(&rt, alloc, "--busy 32", &row, &mut quiet_net(alloc)?)?;
         assert!(rt; slow.counts().dmi_busy > 0);
     }
