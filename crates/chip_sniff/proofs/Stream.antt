@@ -13,7 +13,6 @@ use Rattle.debug_model.specs.Loaded.{live, loaded_board, loaded_chip}
 use Rattle.debug_model.specs.Signs.{sign_of}
 use Rattle.debug_model.specs.Schedule.{RoundPlan}
 use Rattle.rv_model.specs.declared.version.Version.{Version}
-use Rattle.rv_model.specs.declared.version.Version.TheVariants.{V10}
 use Rattle.rv_model.specs.Board.{Board}
 use Rattle.wire_sniff.specs.Ends.{bad_sign_from}
 use Rattle.wire_sniff.specs.declared.sniff_end.SniffEnd.TheVariants.{BadSign}
@@ -223,8 +222,8 @@ first_tied v board plan most_points answers = record { tck = refl; state = refl;
 
 pub lines_tell_operations : LinesTellOperations
 lines_tell_operations l stream loaded good unlimited clear =
-    let c = loaded_chip V10 (loaded_board V10 loaded.image loaded.harts loaded.ram loaded.halted) loaded.plan loaded.most_points in
+    let c = loaded_chip loaded.version (loaded_board loaded.version loaded.image loaded.harts loaded.ram loaded.halted) loaded.plan loaded.most_points in
     subst (λ x. operations_in (sniffed_lines stream (said x stream)) ≡ launched x stream) (sym loaded.is)
-    (stream_tells stream 0 c (first_sniffer (said (live c) stream)) (first_tied V10 _ loaded.plan loaded.most_points (said (live c) stream)) refl good
+    (stream_tells stream 0 c (first_sniffer (said (live c) stream)) (first_tied loaded.version _ loaded.plan loaded.most_points (said (live c) stream)) refl good
     (subst (λ x. (feed x stream).ended ≢ Some AtLimit) loaded.is unlimited)
     (subst (λ x. are_clear (sniffed_lines stream (said x stream)) ≡ true) loaded.is clear))

@@ -51,7 +51,7 @@ read_at : (e : AccessFault) (number old_count new_count : ℕ) (old new : Tells)
 read_at _ number old_count new_count old new (ReadApartFailedAt.in_command e f) = command_wire e [] (transfer_word false number) old_count new_count old new f
 read_at _ number old_count new_count old new (ReadApartFailedAt.in_words mid ran why b) = broke_in why b
 
-apart_wire : (e : AccessFault) (number old_count new_count : ℕ) (old new : Tells) → ReadApartFailed number old_count new_count old new e
+pub apart_wire : (e : AccessFault) (number old_count new_count : ℕ) (old new : Tells) → ReadApartFailed number old_count new_count old new e
     → AccessWire old_count new_count new.far e
 apart_wire (fault.Dmi why) number old_count new_count old new f = read_at (fault.Dmi why) number old_count new_count old new f
 apart_wire (fault.Memory address) number old_count new_count old new f = tt

@@ -3,14 +3,20 @@ use Rattle.std.proofs.Common.{◌≡◌, ◌∙◌, ◌++◌, ℕ, true, false, 
 use Rattle.std.proofs.lemmas.Option.{none-some, same_Some}
 use Rattle.rv_model.specs.Board.{Hart, Machine}
 use Rattle.rv_model.specs.DebugRegisters.{debug_refuses}
+use Rattle.rv_model.specs.Registers.{mip_number}
+use Rattle.debug_model.specs.declared.point.Point.TheVariants.{Access}
+use Rattle.debug_model.specs.Module.{Site}
 use Rattle.debug_model.specs.Scan.{WhereTold}
 use Rattle.debug_model.specs.Told.{Far, site_of}
+use Rattle.abstract_debugger.specs.Debugger.{mip_line, showing_mip}
 use Rattle.abstract_debugger.specs.Lines.{Line}
 use Rattle.abstract_debugger.specs.Plan.{Plan}
-use Rattle.abstract_debugger.specs.Stands.{At, Origin, Target}
+use Rattle.abstract_debugger.specs.Plan.Plan.{say, see}
+use Rattle.abstract_debugger.specs.Stands.{At, Deals, Origin, Target}
 use Rattle.abstract_debugger.specs.Ways.{Way}
+use Rattle.abstract_debugger.specs.Ways.Way.{Still as StillWay}
 use Rattle.abstract_debugger.specs.Turns.{turns}
-use Rattle.probe_access.specs.Cuts.{Leaves, LeftAside, MaybeWritten, Unchanged}
+use Rattle.probe_access.specs.Cuts.{AccessLeftOff, Leaves, LeftAside, LoadLeaves, MaybeWritten, Unchanged}
 use Rattle.probe_access.specs.Registers.{RegisterWrittenAt}
 use Rattle.probe_run.specs.Acts.{Tells}
 use Rattle.probe_run.specs.Happens.{target_of}
@@ -19,12 +25,12 @@ use Rattle.probe_trig.specs.Runs.{ChangesAny}
 use Rattle.probe_trig.specs.Slots.{DebugAlone}
 use Rattle.probe_trig.specs.Transfers.{Transfer}
 use Rattle.probe_session.specs.declared.fault.Failure.{Failure}
-use Rattle.probe_session.specs.Calls.{AskFell, Gave, GiveFell, IsOfHarts, ReadFell, SlotsFell, StopFell, WriteFell}
+use Rattle.probe_session.specs.Calls.{AskFell, Gave, GiveFell, IsOfHarts, PendingFell, ReadFell, SlotsFell, StopFell, WriteFell}
 use Rattle.probe_session.specs.Led.{target_at}
-use Rattle.probe_session.specs.Transcribed.{Still}
+use Rattle.probe_session.specs.Transcribed.{OnTheWay, Still}
 use Rattle.probe_session.proofs.BrokeOff.{LeftAs, OfTheLink, OnWay, asked_of_link, by_access, is_told, left_still, register_of_link}
 use Rattle.probe_session.proofs.BrokeOff.{scratch_of_link}
-use Rattle.probe_session.proofs.OnTheWay.{turns_twice, turns_way}
+use Rattle.probe_session.proofs.OnTheWay.{point_way, turns_twice, turns_way}
 
 -- ---- beside the plan
 
@@ -55,6 +61,23 @@ pub asked_fell : (h number : ℕ) (m : Machine) (sel : ℕ) (way : Way) (o : Ori
 asked_fell h number m sel way o p lines old_count new_count old new f fell a =
     read_fell h number m sel way o p lines old_count new_count old new f fell.fell
     (asked_of_link false h number fell.fell.why old.far new.far (is_told m sel way o p lines old.far a) fell.other fell.fell.told) a
+
+-- mip: the access that the plan takes there was made, or not
+pending_way : (h : ℕ) (m : Machine) (o : Origin) (next : Plan) (lines : List Line) (s t : Site)
+    → Deals m h StillWay o (showing_mip h next) lines (target_of s) → AccessLeftOff Unchanged LoadLeaves h s t → OnTheWay o lines t.journal
+pending_way h m o next lines s t d (AccessLeftOff.before_it c) =
+    turns_way o (showing_mip h next) lines (target_of s) c.harts t.journal d.stands c.journal
+pending_way h m o next lines s t d (AccessLeftOff.behind_it c) =
+    point_way o Access (see (λ b. say (mip_line h b) next)) lines (target_of s) c.before c.behind t.journal tt d.stands c.journal
+
+pub pending_fell : (h : ℕ) (m : Machine) (o : Origin) (next : Plan) (lines : List Line) (old_count new_count : ℕ) (old new : Tells) (f : Failure)
+    → PendingFell h old_count new_count old new f
+    → At m h StillWay o (showing_mip h next) lines (target_at old.far) → Still (LeftAs o lines f) new.far
+pending_fell h m o next lines old_count new_count old new f fell a =
+    by_access fell.why f o lines new.far (Leaves (AccessLeftOff Unchanged LoadLeaves h) old.far new.far) fell.is
+    (asked_of_link false h mip_number fell.why old.far new.far (is_told m h StillWay o (showing_mip h next) lines old.far a) fell.other fell.told) fell.cut
+    (λ l. left_still (AccessLeftOff Unchanged LoadLeaves h) m h StillWay o (showing_mip h next) lines (OnWay o lines) old.far new.far
+    (λ x y d c. pending_way h m o next lines (site_of x) (site_of y) d c) l a)
 
 pub given_fell : (h number value : ℕ) (m : Machine) (sel : ℕ) (way : Way) (o : Origin) (p : Plan) (lines : List Line) (old_count new_count : ℕ)
     (old new : Tells) (f : Failure) → GiveFell h number value old_count new_count old new f

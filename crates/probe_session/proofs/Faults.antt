@@ -21,7 +21,7 @@ use Rattle.probe_session.specs.Led.{DealsAt, target_at}
 use Rattle.probe_session.specs.Places.{Place}
 use Rattle.probe_session.specs.Steps.{with_ebreakm}
 use Rattle.probe_session.specs.Transcribed.{Still}
-use Rattle.probe_session.proofs.AccessFaults.{asked_fell, forget_fell, given_fell, gotten_fell, slots_fell, stop_fell, written_fell}
+use Rattle.probe_session.proofs.AccessFaults.{asked_fell, forget_fell, given_fell, gotten_fell, pending_fell, slots_fell, stop_fell, written_fell}
 use Rattle.probe_session.proofs.BlockFaults.{block_load_fell, block_store_fell}
 use Rattle.probe_session.proofs.BrokeOff.{LeftAs}
 use Rattle.probe_session.proofs.OverFaults.{over_fell}
@@ -56,6 +56,8 @@ fault_left p old_count new_count old new f (Fault.stepping_from {h} {word} stepp
     step_from_fell h word m o stepped other lines old_count new_count old new f fell a
 fault_left p old_count new_count old new f (Fault.asking {h} {number} fell) m o lines a =
     asked_fell h number m p.hart p.way o p.plan lines old_count new_count old new f fell a
+fault_left p old_count new_count old new f (Fault.asking_pending {h} next fell) m o lines a =
+    pending_fell h m o next lines old_count new_count old new f fell a
 fault_left p old_count new_count old new f (Fault.reading {h} {number} fell of) m o lines a =
     gotten_fell h number m p.hart p.way o p.plan lines old_count new_count old new f of fell a
 fault_left p old_count new_count old new f (Fault.giving {h} {number} {value} refused next fell) m o lines a =

@@ -1,11 +1,12 @@
 -- What a halted hart's lines come from.
-use Rattle.std.proofs.Common.{◌≡◌, ◌≢◌, ◌≤◌, ℕ, Bool, false, List, [], subst, sym, ap, refl, if◌then◌else◌}
+use Rattle.std.proofs.Common.{◌≡◌, ◌≢◌, ◌≤◌, ℕ, Bool, true, false, List, [], subst, sym, ap, refl, cond, if◌then◌else◌}
 use Rattle.std.proofs.lemmas.Bool.{ne_eqb}
 use Rattle.rv_model.specs.DebugRegisters.{dcsr_number}
-use Rattle.rv_model.specs.Registers.{pc_number}
+use Rattle.rv_model.specs.Registers.{mip_number, pc_number}
+use Rattle.abstract_debugger.specs.Debugger.{register_line, showing_mip}
 use Rattle.abstract_debugger.specs.Lines.{Line}
 use Rattle.abstract_debugger.specs.Plan.{Plan}
-use Rattle.abstract_debugger.specs.Plan.Plan.{say}
+use Rattle.abstract_debugger.specs.Plan.Plan.{say, see}
 use Rattle.abstract_debugger.specs.Slots.Use.{Armed, Unused}
 use Rattle.abstract_debugger.proofs.SlotLemmas.{CanArm}
 use Rattle.probe_run.specs.Acts.{Tells}
@@ -16,6 +17,8 @@ use Rattle.probe_trig.specs.declared.slot_view.SlotView.{SlotView}
 use Rattle.probe_trig.specs.Runs.{ArmsAny, ChangesAny, FreesAny, ReadsAny}
 use Rattle.probe_trig.specs.SlotRegisters as trig
 use Rattle.probe_session.specs.declared.fault.Failure.{Failure}
+use Rattle.probe_access.specs.Pending.{is_mip}
+use Rattle.probe_session.specs.Calls.{GotPending, PendingFell, PendingNone}
 use Rattle.probe_session.specs.Calls.{AskFell, FoundStop, Gave, GaveNone, GiveFell, Got, GotNone, HitsForgotten, IsOfCores, IsOfHarts, NoneFree}
 use Rattle.probe_session.specs.Calls.{NotUsed, ReadFell, SlotFreed, SlotTaken, SlotsFell, StopFell, Viewed, WriteFell}
 use Rattle.probe_session.specs.Commands.{at_arming, at_ebreak, at_freeing, at_register, at_stop_line, at_written_register, ends_with, shown}
@@ -30,9 +33,9 @@ use Rattle.abstract_debugger.specs.SlotUses.{hits_in, use_named}
 use Rattle.probe_session.specs.Said.{shown_beside}
 use Rattle.probe_session.specs.Slots.{what_of}
 use Rattle.probe_session.specs.Steps.{Step, trigger_cause, with_ebreakm}
-use Rattle.probe_session.specs.Steps.Step.{arms, arms_none, frees, frees_none, reads, reads_none, rests, sets_ebreakm, stands, stands_by_trigger}
+use Rattle.probe_session.specs.Steps.Step.{arms, arms_none, frees, frees_none, reads, reads_no_pending, reads_none, reads_pending, rests, same, sets_ebreakm, stands, stands_by_trigger}
 use Rattle.probe_session.specs.Steps.Step.{writes, writes_none, writes_pc}
-use Rattle.probe_session.proofs.WentLemmas.{falls_at, one, went_one}
+use Rattle.probe_session.proofs.WentLemmas.{falls_at, one, went_one, went_then}
 
 -- a step behind which the hart is left to itself
 rested : {h : ℕ} {line : Line} {from : Plan → Place} {t u : Tells} → ((next : Plan) → Step (from next) t [] (still h (say line next)) u)
@@ -73,13 +76,35 @@ stop_view_falls h pc cause at le fell = falls_at (λ next. Fault.behind (found a
 
 -- ---- registers
 
-pub register_shown : (h number value : ℕ) {t u : Tells} → IsOfCores number → Got h number value t u
-    → Went (at_register h number) (ends_with (Line.Register number value)) [] t u
-register_shown h number value of at = rested (λ next. reads (λ v. say (Line.Register number v) next) at of) refl
+-- one that the hart itself holds is shown as it stands there
+held_plan : (b : Bool) (mip held : Plan) → b ≡ false → cond b mip held ≡ held
+held_plan true mip held is = let none : ⊥ = cc in absurd none
+held_plan false mip held is = refl
 
-pub register_refused : (h number : ℕ) {t u : Tells} → IsOfCores number → GotNone h number t u
+at_held : (h number : ℕ) (line : Line) {t u : Tells} → is_mip number ≡ false
+    → Went (λ next. still h (see (λ b. say (register_line h b number) next))) (ends_with line) [] t u → Went (at_register h number) (ends_with line) [] t u
+at_held h number line other w =
+    went_then (went_one (λ next. same (held_plan (is_mip number) (showing_mip h next) (see (λ b. say (register_line h b number) next)) other))) w
+
+pub register_shown : (h number value : ℕ) {t u : Tells} → is_mip number ≡ false → IsOfCores number → Got h number value t u
+    → Went (at_register h number) (ends_with (Line.Register number value)) [] t u
+register_shown h number value other of at =
+    at_held h number (Line.Register number value) other (rested (λ next. reads (λ v. say (Line.Register number v) next) at of) refl)
+
+pub register_refused : (h number : ℕ) {t u : Tells} → is_mip number ≡ false → IsOfCores number → GotNone h number t u
     → Went (at_register h number) (ends_with (Line.RegisterRefused number)) [] t u
-register_refused h number of at = rested (λ next. reads_none next at of) refl
+register_refused h number other of at = at_held h number (Line.RegisterRefused number) other (rested (λ next. reads_none next at of) refl)
+
+pub pending_shown : (h value : ℕ) {t u : Tells} → GotPending h value t u
+    → Went (at_register h mip_number) (ends_with (Line.Register mip_number value)) [] t u
+pending_shown h value at = rested (λ next. reads_pending next at) refl
+
+pub pending_refused : (h : ℕ) {t u : Tells} → PendingNone h t u → Went (at_register h mip_number) (ends_with (Line.RegisterRefused mip_number)) [] t u
+pending_refused h at = rested (λ next. reads_no_pending next at) refl
+
+pub pending_falls : (h : ℕ) {old_count new_count : ℕ} {t u : Tells} {f : Failure} → PendingFell h old_count new_count t u f
+    → Falls (at_register h mip_number) [] old_count new_count t u f
+pending_falls h fell = falls_at (λ next. Fault.asking_pending next fell)
 
 pub register_falls : (h number : ℕ) {old_count new_count : ℕ} {t u : Tells} {f : Failure} → AskFell h number old_count new_count t u f
     → Falls (at_register h number) [] old_count new_count t u f

@@ -5,13 +5,13 @@ use Rattle.std.proofs.lemmas.Option.{none-some, same_Some}
 use Rattle.rv_model.specs.Board.{Hart, Machine}
 use Rattle.rv_model.specs.Dcsr.{shown_cause}
 use Rattle.rv_model.specs.DebugRegisters.{dcsr_number, debug_refuses, debug_value, debug_written}
-use Rattle.rv_model.specs.Registers.{csr_read_only, pc_number}
+use Rattle.rv_model.specs.Registers.{csr_read_only, mip_number, pc_number}
 use Rattle.debug_model.specs.Dmi.{NoneOperated}
 use Rattle.debug_model.specs.Scan.{WhereTold}
 use Rattle.debug_model.specs.Module.{Site}
 use Rattle.debug_model.specs.Tap.{idcode}
 use Rattle.debug_model.specs.Told.{Far, IsReady, site_of}
-use Rattle.abstract_debugger.specs.Debugger.{arming, freeing, going, halting, one, register_line, saying, stop_line}
+use Rattle.abstract_debugger.specs.Debugger.{arming, freeing, going, halting, one, register_line, saying, showing_mip, stop_line}
 use Rattle.abstract_debugger.specs.Lines.{Line}
 use Rattle.abstract_debugger.specs.Plan.{Plan}
 use Rattle.abstract_debugger.specs.Plan.Change.{EbreakHalts, WriteReg}
@@ -24,6 +24,7 @@ use Rattle.abstract_debugger.proofs.DealsLemmas.{deals_at_plan, deals_put, deals
 use Rattle.abstract_debugger.proofs.StandsLemmas.{seen}
 use Rattle.abstract_debugger.specs.SlotUses.{hits_in}
 use Rattle.probe_access.specs.Registers.{RegisterRefusedAt, RegisterReadAt, RegisterWrittenAt, TurnsPassed, TurnsPassedBut}
+use Rattle.probe_access.specs.Pending.{PendingReadAt}
 use Rattle.probe_access.specs.Stops.{StoppedAt}
 use Rattle.probe_run.specs.Acts.{Tells}
 use Rattle.probe_run.specs.Happens.{HaltsAt, Leaves, ResumesAt, LooksAt, target_of}
@@ -42,7 +43,7 @@ use Rattle.probe_session.proofs.BlockSteps.{block_loaded_at, block_loaded_none_a
 use Rattle.probe_session.proofs.Tolds.{at_far, halt_deals, look_deals, other_found_deals, over_deals, resume_deals, step_found_deals}
 use Rattle.probe_session.proofs.Tolds.{stop_deals, stop_trigger_deals, told_case, went_by}
 use Rattle.probe_session.proofs.ToldWrites.{armed_deals, ebreak_deals, freed_deals, full_deals, hits_deals}
-use Rattle.probe_session.proofs.ToldWrites.{never_refused, no_hits_deals, read_deals, read_next_deals, slots_deals}
+use Rattle.probe_session.proofs.ToldWrites.{never_refused, no_hits_deals, pending_deals, pending_never_refused, read_deals, read_next_deals, slots_deals}
 use Rattle.probe_session.proofs.Unhit.{either_way_deals, holds_none_deals, made_over, made_over_from, none_hit_deals, still_at}
 use Rattle.probe_session.proofs.Whole.{whole_ready}
 use Rattle.probe_session.proofs.ToldWrites.{unused_deals, write_deals, write_pc_deals, write_refused_deals}
@@ -211,6 +212,15 @@ step_leads from to old new said (Step.reads_none {h} {number} next none of) m o 
     none_said m o to lines new.far (told_case (RegisterRefusedAt false h number) m h Still o _ lines
     (λ n. At m h Still o (say (Line.RegisterRefused number) next) lines (target_at n)) old.far new.far
     (λ c d l. absurd (never_refused number l.hart of l.denied)) none.told a)
+step_leads from to old new said (Step.reads_pending {h} {value} next got) m o lines a =
+    none_said m o to lines new.far (told_case (PendingReadAt h value) m h Still o (showing_mip h next) lines
+    (λ n. At m h Still o (say (Line.Register mip_number value) next) lines (target_at n)) old.far new.far
+    (λ c d l. at_far m h Still o _ lines l.far _ l.is (pending_deals m h value o next lines l.before l.behind (site_of c) (site_of l.far) l.hart l.here
+    l.value_is (record { board = l.access.board; journal = l.access.journal }) d)) got.told a)
+step_leads from to old new said (Step.reads_no_pending {h} next none) m o lines a =
+    none_said m o to lines new.far (told_case (RegisterRefusedAt false h mip_number) m h Still o (showing_mip h next) lines
+    (λ n. At m h Still o (say (Line.RegisterRefused mip_number) next) lines (target_at n)) old.far new.far
+    (λ c d l. absurd (pending_never_refused l.hart l.denied)) none.told a)
 step_leads from to old new said (Step.writes {h} {number} {value} refused next gave of other) m o lines a =
     none_said m o to lines new.far (told_case (RegisterWrittenAt h number value) m h Still o _ lines
     (λ n. At m h Still o next lines (target_at n)) old.far new.far

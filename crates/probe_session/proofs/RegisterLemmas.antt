@@ -4,12 +4,12 @@ use Rattle.std.specs.Prelude.{is_some, ◌==◌, ◌||◌}
 use Rattle.std.specs.List.{list_any}
 use Rattle.std.proofs.lemmas.Bool.{eqb-true, false≢true}
 use Rattle.rv_model.specs.DebugRegisters.{dcsr_number, debug_csr_value, debug_refuses, debug_value, value_or}
-use Rattle.rv_model.specs.Registers.{csr_read_only, csr_value, reg_value}
+use Rattle.rv_model.specs.Registers.{csr_read_only, csr_value, mip_number, reg_value}
 use Rattle.debug_model.specs.Registers.{NamedRegister, is_register, named_registers}
 use Rattle.probe_access.specs.declared.fault.AccessFault.{AccessFault}
 use Rattle.probe_access.specs.declared.fault.AccessFault.TheVariants as fault
-use Rattle.probe_session.specs.Calls.{IsNotRegister, IsOfCores, IsOfHarts, GotNone}
-use Rattle.probe_access.specs.RegisterRuns.{ReadFailed}
+use Rattle.probe_session.specs.Calls.{IsNotRegister, IsOfCores, IsOfHarts, GotNone, PendingNone}
+use Rattle.probe_access.specs.RegisterRuns.{ReadApartFailed, ReadFailed}
 use Rattle.probe_access.specs.Registers.{RegisterLeft}
 use Rattle.probe_run.specs.Acts.{Tells}
 
@@ -50,6 +50,16 @@ got_none h number asked old_count new_count old new e is f left =
     refused_by (ReadFailed.asking g) refused = absurd g
     refused_by (ReadFailed.late mid early g) refused =
         record { mid = mid; early = early; heard = record { same = refl; ran = g.ran }; told = refused }
+
+pub pending_none : (h asked old_count new_count : ℕ) (old new : Tells) (e : AccessFault) → e ≡ fault.Register asked
+    → ReadApartFailed mip_number old_count new_count old new e → RegisterLeft false h mip_number old.far new.far e → PendingNone h old new
+pending_none h asked old_count new_count old new e is f left =
+    refused_by (subst (λ (x : AccessFault). ReadApartFailed mip_number old_count new_count old new x) is f)
+    (subst (λ (x : AccessFault). RegisterLeft false h mip_number old.far new.far x) is left)
+  where
+    refused_by : ReadApartFailed mip_number old_count new_count old new (fault.Register asked)
+        → RegisterLeft false h mip_number old.far new.far (fault.Register asked) → PendingNone h old new
+    refused_by g refused = record { heard = record { same = refl; ran = g.ran }; told = refused }
 
 -- ---- those with a name
 

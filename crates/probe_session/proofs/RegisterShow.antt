@@ -2,10 +2,11 @@
 use Rattle.std.proofs.Common.{map, ◌≡◌, ◌≤◌, ◌<◌, ◌+◌, ℕ, zero, suc, Bool, true, false, List, Option, Some, refl, sym, ap, subst, arith, if◌then◌else◌}
 use Rattle.std.specs.Prelude.{is_some, nat_lt}
 use Rattle.std.specs.List.{range_with_len}
-use Rattle.std.proofs.lemmas.Bool.{false≢true, le-ltb, lt-ltb}
+use Rattle.std.proofs.lemmas.Bool.{false≢true, le-ltb, lt-ltb, ne_eqb}
 use Rattle.jt_base.specs.Faults.{Rises}
 use Rattle.jt_base.specs.Sink.{GrewByPrefix, grown}
-use Rattle.rv_model.specs.Registers.{csr_value, first_x_number, pc_number}
+use Rattle.rv_model.specs.Registers.{csr_value, first_x_number, mip_number, pc_number}
+use Rattle.probe_access.specs.Pending.{is_mip}
 use Rattle.abstract_debugger.specs.Lines.{Line, text_of}
 use Rattle.abstract_debugger.specs.Plan.{Plan}
 use Rattle.abstract_debugger.specs.Ways.Way.{Still}
@@ -36,6 +37,9 @@ x_value : (a b : Bool) (v : ℕ) (rest : Option ℕ) → a ≡ false → b ≡ t
 x_value false true v rest is_a is_b = refl
 x_value true b v rest is_a is_b = absurd (false≢true (sym is_a))
 x_value false false v rest is_a is_b = absurd (false≢true is_b)
+
+pub x_not_mip : (x : ℕ) → is_mip (first_x_number + x) ≡ false
+x_not_mip x = ne_eqb (first_x_number + x) mip_number (λ e. omega arith)
 
 pub x_of_cores : (x : ℕ) → x < 32 → IsOfCores (first_x_number + x)
 x_of_cores x below c = x_value (nat_lt (first_x_number + x) first_x_number) (nat_lt (first_x_number + x) (first_x_number + 32)) _ _

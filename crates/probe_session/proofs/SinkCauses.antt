@@ -76,6 +76,7 @@ of_fault p old_count new_count old new f (Fault.stepping_over stepped other r) =
 of_fault p old_count new_count old new f (Fault.stepping stepped other r) = of_access r.why f r.is
 of_fault p old_count new_count old new f (Fault.stepping_from stepped other got r) = of_access r.why f r.is
 of_fault p old_count new_count old new f (Fault.asking r) = of_access r.fell.why f r.fell.is
+of_fault p old_count new_count old new f (Fault.asking_pending next r) = of_access r.why f r.is
 of_fault p old_count new_count old new f (Fault.reading r of) = of_access r.why f r.is
 of_fault p old_count new_count old new f (Fault.giving refused next r) = of_access r.fell.why f r.fell.is
 of_fault p old_count new_count old new f (Fault.writing next at le r) = of_access r.why f r.is

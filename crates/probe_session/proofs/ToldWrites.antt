@@ -14,15 +14,16 @@ use Rattle.rv_model.specs.declared.slot.Slot.{Slot}
 use Rattle.rv_model.specs.Board.{Board, DebugPart, Hart, Machine}
 use Rattle.rv_model.specs.Core.{Core}
 use Rattle.rv_model.specs.Dcsr.{dcsr_of, dcsr_of_word, dcsr_value, dcsr_word, with_dcsr}
-use Rattle.rv_model.specs.DebugRegisters.{dcsr_number, debug_csr_value, debug_csr_written, debug_refuses, debug_value, debug_written, value_or}
+use Rattle.rv_model.specs.DebugRegisters.{dcsr_number, debug_csr_value, debug_csr_written, debug_refuses, debug_seen, debug_value, debug_written, value_or}
 use Rattle.rv_model.specs.Memory.{Memory, after_store, is_aligned, is_inside, loaded, store_answer}
-use Rattle.rv_model.specs.Registers.{csr_read_only, csr_value, csr_written, pc_number, reg_value, reg_written}
+use Rattle.rv_model.specs.Registers.{csr_read_only, csr_value, csr_written, mip_number, mip_value, pc_number, reg_value, reg_written}
 use Rattle.rv_model.specs.Size.{count_of}
 use Rattle.rv_model.specs.TriggerWords.{tdata1_number, tdata2_number, trigger_csr_written, tselect_number}
 use Rattle.rv_model.specs.Undebugged.{with_bytes}
 use Rattle.rv_model.proofs.DebugWordLemmas.{dcsr_read_back}
 use Rattle.debug_model.specs.declared.point.Point.TheVariants.{Access}
 use Rattle.debug_model.specs.Module.{Site}
+use Rattle.abstract_debugger.specs.Debugger.{mip_here, mip_line, showing_mip}
 use Rattle.abstract_debugger.specs.Debugger.{arming, arming_at, by_load, by_store, freeing, is_free_slot, register_line, saying, slot_lines, slots_shown_at, slots_shown_of, value_here}
 use Rattle.abstract_debugger.specs.Laws.{IsFrozen}
 use Rattle.abstract_debugger.specs.Lines.{Line}
@@ -39,11 +40,13 @@ use Rattle.abstract_debugger.specs.Ways.{Way}
 use Rattle.abstract_debugger.specs.Ways.Way.{Ready, Still}
 use Rattle.abstract_debugger.proofs.DealsLemmas.{deals_armed, deals_at_plan, deals_ebreak, deals_freed, deals_frozen, deals_loaded, deals_ready}
 use Rattle.abstract_debugger.proofs.DealsLemmas.{deals_register, deals_seen, deals_stored, deals_went_on, target_frozen, if_false, if_true}
+use Rattle.abstract_debugger.proofs.FrozenLemmas.{stays_same}
 use Rattle.abstract_debugger.proofs.SlotLemmas.{CanArm}
 use Rattle.abstract_debugger.proofs.StandsLemmas.{rewrote_then, shown}
 use Rattle.probe_access.specs.Accesses.{with_memory}
 use Rattle.probe_access.specs.Registers.{TurnsPassed, TurnsPassedBut, reaches}
 use Rattle.probe_access.proofs.Aside.{Frozen}
+use Rattle.probe_access.proofs.PendingTold.{mip_seen, mip_there}
 use Rattle.probe_access.proofs.StepLemmas.{passed_rewrote}
 use Rattle.probe_access.proofs.StopClauses.{dcsr_held, small_shown}
 use Rattle.probe_run.specs.Happens.{target_of}
@@ -112,6 +115,10 @@ both_true a is = ap (λ (b : Bool). b && not (false && false)) is
 
 pub never_refused : (number : ℕ) (x : Hart) → IsOfCores number → reaches false x number ≡ false → ⊥
 never_refused number x of denied = false≢true (sym denied ∙ ap (λ (b : Bool). b && true) (of_harts number of x))
+
+-- mip neither
+pub pending_never_refused : (x : Hart) → reaches false x mip_number ≡ false → ⊥
+pending_never_refused x denied = false≢true (sym denied ∙ ap (λ (v : Option ℕ). is_some v && true) (mip_there x))
 
 -- ---- a register that is written
 
@@ -343,6 +350,18 @@ pub load_deals : (m : Machine) (h : ℕ) (way : Way) (size : Size) (address v : 
 load_deals m h way size address v o faulted read lines before behind s t is a d =
     deals_at_plan m h way o _ (read v) lines (target_of t) (ap (λ r. by_load r faulted read) is)
     (deals_loaded m h way o (λ b. by_load (loaded b.memory address size) faulted read) lines (target_of s) (target_of t) d (pointed_by before behind s t a))
+
+-- mip, of the memory that an access met
+pub pending_deals : (m : Machine) (h v : ℕ) (o : Origin) (next : Plan) (lines : List Line) (before behind : List ℕ) (s t : Site) (x : Hart)
+    → slice_get s.board.harts h ≡ Some x → debug_seen x (after_turns before s.board).memory mip_number ≡ Some v → OneAccessed (λ k. k) before behind s t
+    → Deals m h Still o (showing_mip h next) lines (target_of s) → Deals m h Still o (say (Line.Register mip_number v) next) lines (target_of t)
+pending_deals m h v o next lines before behind s t x here is a d =
+    let b : Board = after_turns before s.board in
+    let there : slice_get b.harts h ≡ Some x = stays_same h s.board before (target_frozen m h Still o (showing_mip h next) lines (target_of s) tt d) ∙ here in
+    let value : mip_value x.core b.memory ≡ v = same_Some (mip_value x.core b.memory) v (sym (mip_seen x b.memory) ∙ is) in
+    deals_at_plan m h Still o _ (say (Line.Register mip_number v) next) lines (target_of t)
+    (ap (λ n. say (Line.Register mip_number n) next) (ap (λ (y : Option Hart). mip_here y b.memory) there ∙ value))
+    (deals_loaded m h Still o (λ c. say (mip_line h c) next) lines (target_of s) (target_of t) d (pointed_by before behind s t a))
 
 pub load_none_deals : (m : Machine) (h : ℕ) (way : Way) (size : Size) (address : ℕ) (why : MemFault) (o : Origin) (faulted : Plan) (read : ℕ → Plan)
     (lines : List Line) (before behind : List ℕ) (s t : Site)

@@ -3,7 +3,6 @@ use Rattle.std.proofs.Common.{◌≡◌, ◌∙◌, ◌++◌, ℕ, Bool, List, [
 use Rattle.std.proofs.Common.{if◌then◌else◌}
 use Rattle.std.proofs.lemmas.Option.{none-some, same_Some}
 use Rattle.jt_base.specs.Sink.{GrewByPrefix, grown}
-use Rattle.rv_model.specs.declared.version.Version.TheVariants.{V10}
 use Rattle.rv_model.specs.Board.{Board, Hart, Machine, machine_of}
 use Rattle.debug_model.specs.declared.command.Command.{Command}
 use Rattle.debug_model.specs.declared.point.Point.{Point}
@@ -79,7 +78,7 @@ reset_fresh j x r = subst (λ (y : Hart). IsFreshPart y.debug) (sym r.is) (reset
 
 pub loaded_fresh : (l : Live) → AsLoaded l → IsFresh l.chip.inside.works.site.board
 loaded_fresh l a j x is =
-    reset_fresh j x (each_reset V10 a.harts a.halted a.right.most j x (sym (ap (λ (k : Live). slice_get k.chip.inside.works.site.board.harts j) a.is) ∙ is))
+    reset_fresh j x (each_reset a.version a.harts a.halted a.right.most j x (sym (ap (λ (k : Live). slice_get k.chip.inside.works.site.board.harts j) a.is) ∙ is))
 
 pub begun_deals : (script : List Command) (first : Far) → AsLoaded first.live
     → Deals (machine_of (site_of first).board) 0 Idle (origin_of script first) (session script) [] (target_of (site_of first))

@@ -25,6 +25,7 @@ use Rattle.probe_trig.specs.Runs.{ArmsAny, ChangesAny, FreesAny, ReadsAny}
 use Rattle.probe_trig.specs.Transfers.{Transfer}
 use Rattle.rv_model.specs.declared.size.Size.{Size}
 use Rattle.rv_model.specs.DebugRegisters.{dcsr_number}
+use Rattle.rv_model.specs.Registers.{mip_number}
 use Rattle.probe_session.specs.Steps.{with_ebreakm}
 use Rattle.probe_session.specs.BlockCalls.{BlockLoadFell, BlockStoreFell}
 use Rattle.probe_session.specs.Calls.{LookFell, ReadFell, SlotsFell, WriteFell}
@@ -34,7 +35,7 @@ use Rattle.probe_session.specs.Goes.{Anyhow, Fault, Fell}
 use Rattle.probe_session.specs.Places.{Place}
 use Rattle.probe_session.specs.Scripts.{BrokeOff, EndedAs, at_commands}
 use Rattle.probe_session.proofs.AccessCauses.{AccessWire, block_wire, bus_block_wire, over_wire, read_wire, single_step_wire, slots_wire, step_from_wire, stop_wire}
-use Rattle.probe_session.proofs.AccessCauses.{write_wire}
+use Rattle.probe_session.proofs.AccessCauses.{apart_wire, write_wire}
 use Rattle.probe_session.proofs.RunCauses.{DmiWire, halt_wire, look_wire, opening_wire, resume_wire, scanned_wire}
 
 abbrev FailureWire : (old_count new_count : ℕ) → Option Far → Failure → Type 0
@@ -155,6 +156,11 @@ fault_wired p old_count new_count old new f (Fault.stepping {h} stepped other r)
 fault_wired p old_count new_count old new f (Fault.stepping_from {h} {word} stepped other got r) =
     record { later = r.later; cause = of_access r.why f old_count new_count new.far r.is (step_from_wire r.why h word old_count new_count old new r.heard) }
 fault_wired p old_count new_count old new f (Fault.asking {h} {number} r) = read_wired h number old_count new_count old new f r.fell
+fault_wired p old_count new_count old new f (Fault.asking_pending next r) = record {
+  later = r.later;
+  cause =
+      of_access r.why f old_count new_count new.far r.is (apart_wire r.why mip_number old_count new_count old new r.heard);
+}
 fault_wired p old_count new_count old new f (Fault.reading {h} {number} r of) = read_wired h number old_count new_count old new f r
 fault_wired p old_count new_count old new f (Fault.giving {h} {number} {value} refused next r) = write_wired h number value old_count new_count old new f r.fell
 fault_wired p old_count new_count old new f (Fault.writing {h} {word} {count = count} {on = on} next {mid = mid} at le r) =

@@ -7,11 +7,15 @@ use Rattle.probe_run.specs.Acts.{Tells}
 use Rattle.debug_model.specs.declared.slot_use.SlotUse.{SlotUse}
 use Rattle.probe_access.specs.Blocks.{element_at}
 use Rattle.probe_session.specs.BlockCalls.{BlockLoaded, BlockLoadedNone, BlockStored, BlockStoredNone}
-use Rattle.probe_session.specs.Calls.{Gave, GaveNone, Got, GotNone, NoneFree, NotUsed, SlotFreed, SlotTaken}
+use Rattle.probe_session.specs.Calls.{Gave, GaveNone, Got, GotNone, GotPending, NoneFree, NotUsed, PendingNone, SlotFreed, SlotTaken}
 
 abbrev pub ReadAs : (h number : ℕ) → (old new : Tells) → Option ℕ → Type 0
 ReadAs h number old new (Some value) = Got h number value old new
 ReadAs h number old new None = GotNone h number old new
+
+abbrev pub PendingAs : (h : ℕ) → (old new : Tells) → Option ℕ → Type 0
+PendingAs h old new (Some value) = GotPending h value old new
+PendingAs h old new None = PendingNone h old new
 
 abbrev pub WrittenAs : (h number value : ℕ) → (old new : Tells) → Bool → Type 0
 WrittenAs h number value old new true = Gave h number value old new

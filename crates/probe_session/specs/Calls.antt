@@ -2,7 +2,7 @@
 -- It is this project's own.
 use Rattle.std.specs.Prelude.{◌≡◌, ◌≤◌, ℕ, true, false, IfSome, List, [], Some, None, is_some}
 use Rattle.rv_model.specs.Core.{Core}
-use Rattle.rv_model.specs.Registers.{reg_value}
+use Rattle.rv_model.specs.Registers.{mip_number, reg_value}
 use Rattle.debug_model.specs.declared.dmi.DmiFault.{DmiFault}
 use Rattle.debug_model.specs.Dmi.{NoneOperated, ScannedCause, Shows}
 use Rattle.debug_model.specs.Scan.{WhereTold}
@@ -10,8 +10,10 @@ use Rattle.debug_model.specs.Tap.{idcode}
 use Rattle.debug_model.specs.Told.{IsReady, Selects}
 use Rattle.probe_access.specs.declared.fault.AccessFault.{AccessFault}
 use Rattle.probe_access.specs.declared.fault.AccessFault.TheVariants as fault
-use Rattle.probe_access.specs.Cuts.{IfCut, Leaves as LeavesChip, LeftAside, MaybeWritten, Unchanged}
-use Rattle.probe_access.specs.RegisterRuns.{ReadFailed, RefusedAs, RegisterRead, RegisterWritten, WriteFailed, double_written, ReadTooEarly}
+use Rattle.probe_access.specs.Cuts.{AccessLeftOff, IfCut, Leaves as LeavesChip, LeftAside, LoadLeaves, MaybeWritten, Unchanged}
+use Rattle.probe_access.specs.Pending.{PendingReadAt}
+use Rattle.probe_access.specs.RegisterRuns.{ReadApart, ReadApartFailed, ReadFailed, RefusedAs, RegisterRead, RegisterWritten, WriteFailed, double_written}
+use Rattle.probe_access.specs.RegisterRuns.{ReadTooEarly}
 use Rattle.probe_access.specs.Registers.{RegisterRefusedAt, RegisterReadAt, RegisterLeft, RegisterWrittenAt}
 use Rattle.probe_access.specs.Scratches.{ScratchLeft}
 use Rattle.probe_access.specs.Stops.{StopFailed, StopRead, StoppedAt}
@@ -69,6 +71,16 @@ pub record GotNone (h number : ℕ) (old new : Tells) : Type 0 where
   pub early : ReadTooEarly number old mid
   pub heard : RefusedAs number number [] (transfer_word false number) mid new
   pub told : WhereTold (RegisterRefusedAt false h number) old.far new.far
+
+-- mip was read of memory, which is one access
+pub record GotPending (h value : ℕ) (old new : Tells) : Type 0 where
+  pub heard : ReadApart mip_number value old new
+  pub told : WhereTold (PendingReadAt h value) old.far new.far
+
+-- the chip refused to read it
+pub record PendingNone (h : ℕ) (old new : Tells) : Type 0 where
+  pub heard : RefusedAs mip_number mip_number [] (transfer_word false mip_number) old new
+  pub told : WhereTold (RegisterRefusedAt false h mip_number) old.far new.far
 
 pub record Gave (h number value : ℕ) (old new : Tells) : Type 0 where
   pub heard : RegisterWritten number value old new
@@ -197,6 +209,17 @@ IsNotRegister (fault.Odd shown) = Unit {0}
 pub record AskFell (h number old_count new_count : ℕ) (old new : Tells) (f : Failure) : Type 0 where
   pub fell : ReadFell h number old_count new_count old new f
   pub other : IsNotRegister fell.why
+
+-- the same of mip, of which one access may have been made
+pub record PendingFell (h old_count new_count : ℕ) (old new : Tells) (f : Failure) : Type 0 where
+  pub why : AccessFault
+  pub later : old_count ≤ new_count
+  pub at : Serving h old.far
+  pub heard : ReadApartFailed mip_number old_count new_count old new why
+  pub told : RegisterLeft false h mip_number old.far new.far why
+  pub cut : IfCut (LeavesChip (AccessLeftOff Unchanged LoadLeaves h) old.far new.far) why
+  pub is : Became why f
+  pub other : IsNotRegister why
 
 pub record GiveFell (h number value old_count new_count : ℕ) (old new : Tells) (f : Failure) : Type 0 where
   pub fell : WriteFell h number value old_count new_count old new f

@@ -4,7 +4,7 @@ use Rattle.std.specs.Prelude.{ℕ, Bool, if◌then◌else◌}
 use Rattle.rv_model.specs.Registers.{csr_read_only}
 use Rattle.debug_model.specs.declared.command.Command.{Command}
 use Rattle.debug_model.specs.Tap.{idcode}
-use Rattle.abstract_debugger.specs.Debugger.{State, act, arming, freeing, going, one, register_line, stop_line}
+use Rattle.abstract_debugger.specs.Debugger.{State, act, arming, freeing, going, one, showing, stop_line}
 use Rattle.abstract_debugger.specs.Lines.{Line}
 use Rattle.abstract_debugger.specs.Plan.{Plan}
 use Rattle.abstract_debugger.specs.Plan.Change.{EbreakHalts, WriteReg}
@@ -40,7 +40,7 @@ abbrev pub at_stop_line : ℕ → Plan → Place
 at_stop_line h next = still h (stop_line h next)
 
 abbrev pub shown : ℕ → ℕ → Plan → Plan
-shown number h next = see (λ b. say (register_line h b number) next)
+shown number h next = showing h number next
 
 abbrev pub at_register : ℕ → ℕ → Plan → Place
 at_register h number next = still h (shown number h next)

@@ -5,7 +5,7 @@ use Rattle.jt_base.specs.Faults.{Rises}
 use Rattle.jt_base.specs.Sink.{GrewByPrefix, grown}
 use Rattle.rv_model.specs.declared.size.Size.{Size}
 use Rattle.debug_model.specs.declared.command.Path.{Path}
-use Rattle.abstract_debugger.specs.Debugger.{Seen, State, going, halting, look, one}
+use Rattle.abstract_debugger.specs.Debugger.{Seen, State, going, halting, look, one, showing_mip}
 use Rattle.abstract_debugger.specs.Laws.{Quiet}
 use Rattle.abstract_debugger.specs.Lines.{Line, any_error, text_of, text_of_all}
 use Rattle.abstract_debugger.specs.Plan.{Plan}
@@ -21,7 +21,7 @@ use Rattle.rv_model.specs.Registers.{csr_read_only, pc_number}
 use Rattle.probe_session.specs.declared.fault.Failure.{Failure}
 use Rattle.probe_session.specs.declared.fault.Failure.TheVariants as failure
 use Rattle.probe_session.specs.Calls.{AskFell, FoundStop, Gave, GiveFell, Got, HaltFell, IdcodeFell, IsOfHarts, LookFell, StepFell, StepFromFell, StepOverFell}
-use Rattle.probe_session.specs.Calls.{ReadFell, ResumeFell, SlotsFell, StopFell, WriteFell}
+use Rattle.probe_session.specs.Calls.{PendingFell, ReadFell, ResumeFell, SlotsFell, StopFell, WriteFell}
 use Rattle.probe_session.specs.BlockCalls.{BlockLoadFell, BlockStoreFell}
 use Rattle.probe_session.specs.Blocks.{MayLoad, Stores}
 use Rattle.probe_session.specs.Places.{Place, idle, may_say, place, ready, spot, still}
@@ -44,7 +44,8 @@ pub data Passing (h : ℕ) (old new : Tells) : Type 0 where
   got : {number value : ℕ} → Got h number value old new → Passing h old new
   found : {pc cause : ℕ} → FoundStop h pc cause old new → Passing h old new
 
--- the call that this place asks for failed; a register may be read at any place of a halted hart, and the IDCODE at any place
+-- the call that this place asks for failed; a register but mip may be read at any place of a halted hart,
+-- and the IDCODE at any place
 pub data Fault : Place → ℕ → ℕ → Tells → Tells → Failure → Type 0 where
   idcode : {p : Place} {old_count new_count : ℕ} {old new : Tells} {f : Failure} → IdcodeFell old_count new_count old new f
       → Fault p old_count new_count old new f
@@ -63,6 +64,8 @@ pub data Fault : Place → ℕ → ℕ → Tells → Tells → Failure → Type 
       → Fault (ready h (one h stepped other)) old_count new_count old new f
   asking : {h number old_count new_count : ℕ} {p : Plan} {old new : Tells} {f : Failure} → AskFell h number old_count new_count old new f
       → Fault (still h p) old_count new_count old new f
+  asking_pending : {h old_count new_count : ℕ} (next : Plan) {old new : Tells} {f : Failure} → PendingFell h old_count new_count old new f
+      → Fault (still h (showing_mip h next)) old_count new_count old new f
   reading : {h number old_count new_count : ℕ} {p : Plan} {old new : Tells} {f : Failure} → ReadFell h number old_count new_count old new f → IsOfHarts number
       → Fault (still h p) old_count new_count old new f
   giving : {h number value old_count new_count : ℕ} (refused next : Plan) {old new : Tells} {f : Failure}

@@ -6,11 +6,11 @@ use Rattle.std.specs.List.{list_any}
 use Rattle.rv_model.specs.declared.cause.Cause.TheVariants as halted_by
 use Rattle.rv_model.specs.declared.size.Size.{Size}
 use Rattle.rv_model.specs.Cause.{cause_number}
-use Rattle.rv_model.specs.Registers.{csr_read_only, pc_number}
+use Rattle.rv_model.specs.Registers.{csr_read_only, mip_number, pc_number}
 use Rattle.debug_model.specs.declared.command.Path.{Path}
 use Rattle.debug_model.specs.Tap.{idcode}
 use Rattle.abstract_debugger.specs.Debugger.{arming, by_state, freeing, going, halted_of, halting, look, one}
-use Rattle.abstract_debugger.specs.Debugger.{register_line, saying, slots_shown_at, stop_line, value_here}
+use Rattle.abstract_debugger.specs.Debugger.{register_line, saying, showing_mip, slots_shown_at, stop_line, value_here}
 use Rattle.abstract_debugger.specs.Lines.{Line}
 use Rattle.abstract_debugger.specs.Plan.{Plan, is_step}
 use Rattle.abstract_debugger.specs.Plan.Change.{EbreakHalts, WriteReg}
@@ -28,8 +28,8 @@ use Rattle.abstract_debugger.specs.SlotUses.{hits_in, use_named}
 use Rattle.probe_run.specs.declared.hart.Seen.{Seen}
 use Rattle.probe_run.specs.declared.hart.Seen.TheVariants as seen
 use Rattle.probe_run.specs.Acts.{Tells}
-use Rattle.probe_session.specs.Calls.{FoundStop, Gave, GaveNone, Got, GotNone, HaltMade, HitsForgotten, Identified, IsOfCores, StepFromMade}
-use Rattle.probe_session.specs.Calls.{NoneFree, NotUsed, StepMade, StepOverMade, ResumeMade, LookMade, SlotFreed, SlotTaken, Viewed}
+use Rattle.probe_session.specs.Calls.{FoundStop, Gave, GaveNone, Got, GotNone, GotPending, HaltMade, HitsForgotten, Identified, IsOfCores, StepFromMade}
+use Rattle.probe_session.specs.Calls.{NoneFree, NotUsed, PendingNone, StepMade, StepOverMade, ResumeMade, LookMade, SlotFreed, SlotTaken, Viewed}
 use Rattle.probe_trig.specs.Stepping.{shows_step}
 use Rattle.probe_access.specs.Blocks.{element_at}
 use Rattle.probe_session.specs.BlockCalls.{BlockLoaded, BlockLoadedNone, BlockStored, BlockStoredNone}
@@ -122,6 +122,11 @@ pub data Step : Place → Tells → List Line → Place → Tells → Type 0 whe
       (still h (say (Line.Register number value) (see (λ b. saying (map (register_line h b) numbers) next)))) new
   reads_none : {h number : ℕ} (next : Plan) {old new : Tells} → GotNone h number old new → IsOfCores number
       → Step (still h (see (λ b. say (register_line h b number) next))) old [] (still h (say (Line.RegisterRefused number) next)) new
+  -- mip, by the access that the plan takes there
+  reads_pending : {h value : ℕ} (next : Plan) {old new : Tells} → GotPending h value old new
+      → Step (still h (showing_mip h next)) old [] (still h (say (Line.Register mip_number value) next)) new
+  reads_no_pending : {h : ℕ} (next : Plan) {old new : Tells} → PendingNone h old new
+      → Step (still h (showing_mip h next)) old [] (still h (say (Line.RegisterRefused mip_number) next)) new
   writes : {h number value : ℕ} (refused next : Plan) {old new : Tells} → Gave h number value old new → IsOfCores number → number ≢ pc_number
       → Step (still h (if csr_read_only number then refused else change (WriteReg h number value) next)) old [] (still h next) new
   writes_pc : {h value : ℕ} (refused next : Plan) {old mid new : Tells} → Gave h pc_number value old mid → HitsForgotten h mid new

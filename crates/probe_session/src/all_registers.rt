@@ -1,6 +1,7 @@
 //! `regs`: the registers of the hart, a line each.
 
-ghost use Rattle.std.specs.Prelude.{◌≤◌, [], false, IfOk, IfErr, OnOk};
+ghost use Rattle.std.specs.Prelude.{◌≡◌, ◌≤◌, [], false, IfOk, IfErr, OnOk};
+ghost use Rattle.probe_access.specs.Pending.{is_mip};
 ghost use Rattle.debug_model.specs.declared.command.Command.TheVariants as command;
 ghost use Rattle.probe_session.specs.Calls.{IsOfCores};
 ghost use Rattle.probe_session.specs.Commands.{before, state_of};
@@ -26,7 +27,7 @@ use printed_lines::Line;
 use probe_run::Halted;
 use rv_model::register_number;
 
-/// Puts the line of a register that each hart has.
+/// Puts the line of a register that each hart itself holds.
 fn put_register<D: Dmi, K: Sink>(
     link: &mut D,
     halted: &Halted,
@@ -34,6 +35,7 @@ fn put_register<D: Dmi, K: Sink>(
     out: &mut K,
 ) -> Result<(), Failure>
     requires of { IsOfCores number }
+    requires other { is_mip number ≡ false }
     requires serving { AttachedHalted halted.now.number (D.seen link.old) }
     ensures spoke { OnOk result (Spoke (at_next_register halted.now.number number) (at_registers halted.now.number) false
         (told (D.seen link.old)) (told (D.seen link.new)) (K.contents out.old)

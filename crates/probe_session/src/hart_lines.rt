@@ -1,6 +1,8 @@
 //! The lines that a halted hart answers.
 
 ghost use Rattle.std.specs.Prelude.{◌≡◌, ◌<◌, [], true, false, IfOk, IfErr};
+ghost use Rattle.rv_model.specs.Registers.{mip_number};
+ghost use Rattle.probe_access.specs.Pending.{is_mip};
 ghost use Rattle.probe_session.specs.Calls.{IsOfCores};
 ghost use Rattle.probe_session.specs.Commands.{at_arming, at_ebreak, at_freeing, at_register, at_stop_line, at_written_register, ends_with};
 ghost use Rattle.probe_session.specs.Goes.{Falls, Went};
@@ -13,7 +15,7 @@ ghost use Rattle.probe_trig.specs.SlotRegisters.{CanArm};
 ghost use Rattle.probe_run.specs.Told.{told, Fails};
 
 use crate::fault::Failure;
-use crate::registers::{reg, reg_or_none, set_reg_if_taken};
+use crate::registers::{pending_or_none, reg, reg_or_none, set_reg_if_taken};
 use crate::slots::{arm, disarm, slots};
 use crate::stops::stop;
 use debug_model::{Dmi, SlotUse};
@@ -47,6 +49,38 @@ pub(crate) fn stop_line<D: Dmi>(link: &mut D, halted: &Halted) -> Result<Line, F
     })
 }
 
+/// The line that shows `mip`, by the one access that tells it.
+fn pending_line<D: Dmi>(link: &mut D, halted: &Halted) -> Result<Line, Failure>
+    requires serving { AttachedHalted halted.now.number (D.seen link.old) }
+    ensures went { IfOk result
+        (λ line. Went (at_register halted.now.number mip_number) (ends_with (said_by line)) [] (told (D.seen link.old))
+        (told (D.seen link.new))) }
+    ensures falls { IfErr result (Fails (Falls (at_register halted.now.number mip_number) []) (D.seen link.old) (D.seen link.new)) }
+    ensures keeps { Goes (λ _. AttachedAt halted.now.number) (D.seen link.old) (D.seen link.new) result }
+{
+    match pending_or_none(link, halted)? {
+        Some(value) => Ok(Line::Register(register_number::MIP, value)),
+        None => Ok(Line::RegisterRefused(register_number::MIP)),
+    }
+}
+
+/// The line that shows a register that the hart itself holds.
+fn held_line<D: Dmi>(link: &mut D, halted: &Halted, number: u16) -> Result<Line, Failure>
+    requires of { IsOfCores number }
+    requires other { is_mip number ≡ false }
+    requires serving { AttachedHalted halted.now.number (D.seen link.old) }
+    ensures went { IfOk result
+        (λ line. Went (at_register halted.now.number number) (ends_with (said_by line)) [] (told (D.seen link.old))
+        (told (D.seen link.new))) }
+    ensures falls { IfErr result (Fails (Falls (at_register halted.now.number number) []) (D.seen link.old) (D.seen link.new)) }
+    ensures keeps { Goes (λ _. AttachedAt halted.now.number) (D.seen link.old) (D.seen link.new) result }
+{
+    match reg_or_none(link, halted, number)? {
+        Some(value) => Ok(Line::Register(number, value)),
+        None => Ok(Line::RegisterRefused(number)),
+    }
+}
+
 /// The line that shows a register.
 pub(crate) fn register_line<D: Dmi>(
     link: &mut D,
@@ -61,10 +95,10 @@ pub(crate) fn register_line<D: Dmi>(
     ensures falls { IfErr result (Fails (Falls (at_register halted.now.number number) []) (D.seen link.old) (D.seen link.new)) }
     ensures keeps { Goes (λ _. AttachedAt halted.now.number) (D.seen link.old) (D.seen link.new) result }
 {
-    match reg_or_none(link, halted, number)? {
-        Some(value) => Ok(Line::Register(number, value)),
-        None => Ok(Line::RegisterRefused(number)),
+    if number == register_number::MIP {
+        return pending_line(link, halted);
     }
+    held_line(link, halted, number)
 }
 
 /// Writes a register, and the line that shows it then. A written pc forgets the slots' hits.

@@ -30,6 +30,8 @@ use Rattle.std.proofs.Common.{
   arith,
 }
 use Rattle.std.proofs.lemmas.List.Elements.{All-nil, All-push}
+use Rattle.rv_model.specs.declared.version.Version.{Version}
+use Rattle.rv_model.specs.declared.version.Version.TheVariants.{V10}
 use Rattle.rv_model.specs.TriggerWords.{disabled_word}
 use Rattle.probe_run.specs.Acts.{Tells}
 use Rattle.probe_trig.specs.declared.register.TriggerRegister.TheVariants.{Tdata1, Tdata2, Tinfo, Tselect}
@@ -37,6 +39,7 @@ use Rattle.debug_model.specs.declared.slot_use.SlotUse.{SlotUse}
 use Rattle.probe_trig.specs.Runs.{
   Arms,
   ArmsAny,
+  ArmsOn,
   Finds,
   FindsNone,
   FreesAny,
@@ -47,13 +50,14 @@ use Rattle.probe_trig.specs.Runs.{
   armed,
   armed_at,
   armed_by,
+  arming_version,
   freed,
   put_back,
   word_read,
   words_read,
 }
-use Rattle.probe_trig.specs.Single.{AddressSet, Armed, ArmedBy, OneGot, OneSet, WordRead}
-use Rattle.probe_trig.specs.Transfers.{Did, Made, Transfer}
+use Rattle.probe_trig.specs.Single.{AddressSet, Armed, ArmedBy, OneAsked, OneGot, OneSet, WordRead}
+use Rattle.probe_trig.specs.Transfers.{Did, Made, Transfer, asked}
 use Rattle.probe_trig.specs.Transfers.Transfer.{Got, Set}
 use Rattle.probe_trig.specs.SlotRegisters.{address_named, shows_free, word_named}
 use Rattle.probe_trig.proofs.Shows.{disabled_free}
@@ -204,74 +208,86 @@ no_address o is = sym (ap address_set is)
 pub sets_address : (what : SlotUse) (a : ℕ) → address_named what ≡ Some a → Fits (OneSet Tdata2 a) (AddressSet what) []
 sets_address what a named ts is = ([], append-nil ts ∙ is ∙ address_made (address_named what) a named)
 
-pub arms_address : (tinfo : ℕ) (what : SlotUse) → Fits (AddressSet what) (ArmedBy tinfo what) []
-arms_address tinfo what ts is = (
-  Set Tdata1 (word_named tinfo what) ∷ [],
-  ap (λ (zs : List Transfer). zs ++ Set Tdata1 (word_named tinfo what) ∷ []) is,
+pub arms_address : (v : Version) (what : SlotUse) → Fits (AddressSet what) (ArmedBy v what) []
+arms_address v what ts is = (
+  Set Tdata1 (word_named v what) ∷ [],
+  ap (λ (zs : List Transfer). zs ++ Set Tdata1 (word_named v what) ∷ []) is,
 )
 
-pub arms_trigger : (tinfo : ℕ) (what : SlotUse) → Fits (OneSet Tdata1 (word_named tinfo what)) (ArmedBy tinfo what) (address_set (address_named what))
-arms_trigger tinfo what ts is = ([], ap (λ (zs : List Transfer). address_set (address_named what) ++ (zs ++ [])) is)
+pub arms_trigger : (v : Version) (what : SlotUse) → Fits (OneSet Tdata1 (word_named v what)) (ArmedBy v what) (address_set (address_named what))
+arms_trigger v what ts is = ([], ap (λ (zs : List Transfer). address_set (address_named what) ++ (zs ++ [])) is)
 
-pub arms_tinfo : (what : SlotUse) → Fits (OneGot Tinfo) (Armed what) []
-arms_tinfo what ts (tinfo, is) = (armed_by tinfo what, (tinfo, ap (λ (zs : List Transfer). zs ++ armed_by tinfo what) is))
+pub arms_tinfo : (release : Version) (what : SlotUse) → Fits (OneAsked Tinfo) (Armed release what) []
+arms_tinfo release what ts (tinfo, is) =
+    let rest : List Transfer = armed_by (arming_version release tinfo) what in (rest, (tinfo, ap (λ (zs : List Transfer). zs ++ rest) is))
 
-pub arms_offered : (what : SlotUse) (tinfo : ℕ) → Fits (ArmedBy tinfo what) (Armed what) (Got Tinfo tinfo ∷ [])
-arms_offered what tinfo ts is = ([], (tinfo, ap (λ (zs : List Transfer). Got Tinfo tinfo ∷ zs) (append-nil ts ∙ is)))
+pub arms_offered : (release : Version) (what : SlotUse) (tinfo : Option ℕ)
+    → Fits (ArmedBy (arming_version release tinfo) what) (Armed release what) (asked Tinfo tinfo)
+arms_offered release what tinfo ts is = ([], (tinfo, ap (λ (zs : List Transfer). asked Tinfo tinfo ++ zs) (append-nil ts ∙ is)))
 
-pub offered_did : (what : SlotUse) (tinfo h : ℕ) (old mid new : Tells) → Made h old (Got Tinfo tinfo ∷ []) mid → Made h mid (armed_by tinfo what) new
-    → Did (Armed what) h old new
-offered_did what tinfo h old mid new got arms =
-    record { transfers = armed what tinfo; whole = (tinfo, refl); made = made_then h (Got Tinfo tinfo ∷ []) (armed_by tinfo what) old mid new got arms }
+pub offered_did : (release : Version) (what : SlotUse) (tinfo : Option ℕ) (h : ℕ) (old mid new : Tells) → Made h old (asked Tinfo tinfo) mid
+    → Made h mid (armed_by (arming_version release tinfo) what) new → Did (Armed release what) h old new
+offered_did release what tinfo h old mid new got arms = record {
+  transfers = armed release what tinfo;
+  whole = (tinfo, refl);
+  made = made_then h (asked Tinfo tinfo) (armed_by (arming_version release tinfo) what) old mid new got arms;
+}
 
 -- of a slot that was armed
-abbrev pub tinfo_of : (what : SlotUse) (h : ℕ) (old new : Tells) → Did (Armed what) h old new → ℕ
-tinfo_of what h old new d = d.whole.0
+abbrev pub tinfo_of : (release : Version) (what : SlotUse) (h : ℕ) (old new : Tells) → Did (Armed release what) h old new → Option ℕ
+tinfo_of release what h old new d = d.whole.0
 
-pub armed_made : (what : SlotUse) (h : ℕ) (old new : Tells) (d : Did (Armed what) h old new) → Made h old (armed what (tinfo_of what h old new d)) new
-armed_made what h old new d = subst (λ (zs : List Transfer). Made h old zs new) d.whole.1 d.made
+pub armed_made : (release : Version) (what : SlotUse) (h : ℕ) (old new : Tells) (d : Did (Armed release what) h old new)
+    → Made h old (armed release what (tinfo_of release what h old new d)) new
+armed_made release what h old new d = subst (λ (zs : List Transfer). Made h old zs new) d.whole.1 d.made
 
 -- ---- the whole call
 
-abbrev pub arming : SlotUse → ℕ → List Transfer → Option ℕ → ℕ → List Transfer
-arming what kept sought found tinfo = Got Tselect kept ∷ (sought ++ (armed_at what found tinfo ++ put_back kept))
+abbrev pub arming : Version → SlotUse → ℕ → List Transfer → Option ℕ → Option ℕ → List Transfer
+arming release what kept sought found tinfo = Got Tselect kept ∷ (sought ++ (armed_at release what found tinfo ++ put_back kept))
 
-arms_any : (what : SlotUse) (kept : ℕ) (sought : List Transfer) (found : Option ℕ) (tinfo : ℕ) (ts : List Transfer) → Seeks found sought
-    → ts ≡ arming what kept sought found tinfo → ArmsAny what ts
-arms_any what kept sought found tinfo ts seeks is = (found, record { kept = kept; sought = sought; seeks = seeks; tinfo = tinfo; is = is })
+arms_any : (release : Version) (what : SlotUse) (kept : ℕ) (sought : List Transfer) (found tinfo : Option ℕ) (ts : List Transfer) → Seeks found sought
+    → ts ≡ arming release what kept sought found tinfo → ArmsAny what ts
+arms_any release what kept sought found tinfo ts seeks is =
+    (found, (release, record { kept = kept; sought = sought; seeks = seeks; tinfo = tinfo; is = is }))
 
 finds_first : Seeks (Some 0) (word_read 0 free_word)
 finds_first = record { vain = []; used = record { all = All-nil IsInUse; few = omega arith }; here = refl; tdata1 = free_word; free = disabled_free; is = refl }
 
+-- what has not been read yet, and the release, may be any
 pub arms_keep : (what : SlotUse) → Fits (OneGot Tselect) (ArmsAny what) []
 arms_keep what ts (k, is) =
-    let rest : List Transfer = word_read 0 free_word ++ (armed what 0 ++ put_back k) in
-    (rest, arms_any what k (word_read 0 free_word) (Some 0) 0 (ts ++ rest) finds_first (ap (λ (zs : List Transfer). zs ++ rest) is))
+    let rest : List Transfer = word_read 0 free_word ++ (armed V10 what None ++ put_back k) in
+    (rest, arms_any V10 what k (word_read 0 free_word) (Some 0) None (ts ++ rest) finds_first (ap (λ (zs : List Transfer). zs ++ rest) is))
 
 pub arms_seek : (what : SlotUse) (k : ℕ) → Fits SeeksAny (ArmsAny what) (Got Tselect k ∷ [])
 arms_seek what k ts (found, seeks) = (
-  armed_at what found 0 ++ put_back k,
-  arms_any what k ts found 0 (Got Tselect k ∷ (ts ++ (armed_at what found 0 ++ put_back k))) seeks refl,
+  armed_at V10 what found None ++ put_back k,
+  arms_any V10 what k ts found None (Got Tselect k ∷ (ts ++ (armed_at V10 what found None ++ put_back k))) seeks refl,
 )
 
 pub arms_none : (what : SlotUse) (k : ℕ) (sought : List Transfer) → Seeks None sought → Fits (OneSet Tselect k) (ArmsAny what) (Got Tselect k ∷ sought)
-arms_none what k sought seeks ts is =
-    ([], arms_any what k sought None 0 (Got Tselect k ∷ (sought ++ (ts ++ []))) seeks (ap (λ (zs : List Transfer). Got Tselect k ∷ (sought ++ (zs ++ []))) is))
+arms_none what k sought seeks ts is = (
+  [],
+  arms_any V10 what k sought None None (Got Tselect k ∷ (sought ++ (ts ++ []))) seeks
+      (ap (λ (zs : List Transfer). Got Tselect k ∷ (sought ++ (zs ++ []))) is),
+)
 
-pub arms_armed : (what : SlotUse) (k slot : ℕ) (sought : List Transfer) → Seeks (Some slot) sought → Fits (Armed what) (ArmsAny what) (Got Tselect k ∷ sought)
-arms_armed what k slot sought seeks ts (tinfo, is) = (
+pub arms_armed : (release : Version) (what : SlotUse) (k slot : ℕ) (sought : List Transfer) → Seeks (Some slot) sought
+    → Fits (Armed release what) (ArmsAny what) (Got Tselect k ∷ sought)
+arms_armed release what k slot sought seeks ts (tinfo, is) = (
   put_back k,
-  arms_any what k sought (Some slot) tinfo (Got Tselect k ∷ (sought ++ (ts ++ put_back k))) seeks
+  arms_any release what k sought (Some slot) tinfo (Got Tselect k ∷ (sought ++ (ts ++ put_back k))) seeks
       (ap (λ (zs : List Transfer). Got Tselect k ∷ (sought ++ (zs ++ put_back k))) is),
 )
 
-pub arms_back : (what : SlotUse) (k slot tinfo : ℕ) (sought : List Transfer) → Seeks (Some slot) sought
-    → Fits (OneSet Tselect k) (ArmsAny what) (Got Tselect k ∷ (sought ++ armed what tinfo))
-arms_back what k slot tinfo sought seeks ts is = (
+pub arms_back : (release : Version) (what : SlotUse) (k slot : ℕ) (tinfo : Option ℕ) (sought : List Transfer) → Seeks (Some slot) sought
+    → Fits (OneSet Tselect k) (ArmsAny what) (Got Tselect k ∷ (sought ++ armed release what tinfo))
+arms_back release what k slot tinfo sought seeks ts is = (
   [],
-  arms_any what k sought (Some slot) tinfo (Got Tselect k ∷ ((sought ++ armed what tinfo) ++ (ts ++ []))) seeks
+  arms_any release what k sought (Some slot) tinfo (Got Tselect k ∷ ((sought ++ armed release what tinfo) ++ (ts ++ []))) seeks
       (ap (λ (zs : List Transfer). Got Tselect k ∷ zs)
-      (append_assoc sought (armed what tinfo) (ts ++ []) ∙ ap (λ (zs : List Transfer). sought ++ (armed what tinfo ++ (zs ++ []))) is)),
+      (append_assoc sought (armed release what tinfo) (ts ++ []) ∙ ap (λ (zs : List Transfer). sought ++ (armed release what tinfo ++ (zs ++ []))) is)),
 )
 
 -- ---- what was made
@@ -283,26 +299,33 @@ address_done what a h old new named m = subst (λ (zs : List Transfer). Made h o
 pub no_address_done : (what : SlotUse) (h : ℕ) (old : Tells) → address_named what ≡ None → Made h old (address_set (address_named what)) old
 no_address_done what h old named = subst (λ (zs : List Transfer). Made h old zs old) (no_address (address_named what) named) Made.nothing
 
-pub armed_did : (what : SlotUse) (k slot h : ℕ) (old a b c new : Tells) → Made h old (Got Tselect k ∷ []) a → Did (Seeks (Some slot)) h a b
-    → Did (Armed what) h b c → Made h c (put_back k) new → Did (Arms what (Some slot)) h old new
-armed_did what k slot h old a b c new saved seeks arms last =
-    let tinfo : ℕ = tinfo_of what h b c arms in
+pub armed_did : (release : Version) (what : SlotUse) (k slot h : ℕ) (old a b c new : Tells) → Made h old (Got Tselect k ∷ []) a
+    → Did (Seeks (Some slot)) h a b
+    → Did (Armed release what) h b c → Made h c (put_back k) new → Did (ArmsOn release what (Some slot)) h old new
+armed_did release what k slot h old a b c new saved seeks arms last =
+    let tinfo : Option ℕ = tinfo_of release what h b c arms in
     record {
-      transfers = arming what k seeks.transfers (Some slot) tinfo;
+      transfers = arming release what k seeks.transfers (Some slot) tinfo;
       whole = record { kept = k; sought = seeks.transfers; seeks = seeks.whole; tinfo = tinfo; is = refl };
-      made = made_then h (Got Tselect k ∷ []) (seeks.transfers ++ (armed what tinfo ++ put_back k)) old a new saved
-          (made_then h seeks.transfers (armed what tinfo ++ put_back k) a b new seeks.made
-          (made_then h (armed what tinfo) (put_back k) b c new (armed_made what h b c arms) last));
+      made = made_then h (Got Tselect k ∷ []) (seeks.transfers ++ (armed release what tinfo ++ put_back k)) old a new saved
+          (made_then h seeks.transfers (armed release what tinfo ++ put_back k) a b new seeks.made
+          (made_then h (armed release what tinfo) (put_back k) b c new (armed_made release what h b c arms) last));
     }
 
--- nothing is armed, so no tinfo is read: the one named here is any number
-pub none_did : (what : SlotUse) (k h : ℕ) (old a b new : Tells) → Made h old (Got Tselect k ∷ []) a → Did (Seeks None) h a b → Made h b (put_back k) new
-    → Did (Arms what None) h old new
-none_did what k h old a b new saved seeks last = record {
-  transfers = arming what k seeks.transfers None 0;
-  whole = record { kept = k; sought = seeks.transfers; seeks = seeks.whole; tinfo = 0; is = refl };
+-- nothing is armed, so no tinfo is read
+pub none_did : (release : Version) (what : SlotUse) (k h : ℕ) (old a b new : Tells) → Made h old (Got Tselect k ∷ []) a → Did (Seeks None) h a b
+    → Made h b (put_back k) new
+    → Did (ArmsOn release what None) h old new
+none_did release what k h old a b new saved seeks last = record {
+  transfers = arming release what k seeks.transfers None None;
+  whole = record { kept = k; sought = seeks.transfers; seeks = seeks.whole; tinfo = None; is = refl };
   made = made_then h (Got Tselect k ∷ []) (seeks.transfers ++ put_back k) old a new saved (made_then h seeks.transfers (put_back k) a b new seeks.made last);
 }
+
+-- whichever release it was
+pub arms_did : (release : Version) (what : SlotUse) (found : Option ℕ) (h : ℕ) (old new : Tells) → Did (ArmsOn release what found) h old new
+    → Did (Arms what found) h old new
+arms_did release what found h old new d = record { transfers = d.transfers; whole = (release, d.whole); made = d.made }
 
 pub sought_behind : (k h : ℕ) (old a b : Tells) (found : Option ℕ) → Made h old (Got Tselect k ∷ []) a → (seeks : Did (Seeks found) h a b)
     → Made h old (Got Tselect k ∷ seeks.transfers) b

@@ -36,7 +36,7 @@ use Rattle.rv_model.specs.declared.slot.Trigger.{Trigger}
 use Rattle.rv_model.specs.declared.slot.Trigger.TheVariants.{Disabled}
 use Rattle.rv_model.specs.declared.version.Version.{Version}
 use Rattle.rv_model.specs.Board.{Hart, free_slot}
-use Rattle.rv_model.specs.TriggerWords.{CountFits, disabled_word, tdata1_of, trigger_of, version_offered}
+use Rattle.rv_model.specs.TriggerWords.{CountFits, disabled_word, tdata1_of, trigger_of}
 use Rattle.rv_model.specs.Triggers.{CountsFit}
 use Rattle.rv_model.proofs.DebugWordLemmas.{trigger_read_back}
 use Rattle.debug_model.specs.declared.command.WatchKind.TheVariants.{Access, Load, Store}
@@ -125,37 +125,36 @@ address_armed i a n t s ss x rest kept lt here sh =
     record { shown = subst (λ (z : Hart). Shown rest z) e q.shown; is = q.is ∙ ap (played rest) e } in
     passed_then (Set Tdata2 a ∷ more) more rest (posed i ss x) (posed i (set ss i u) x) (posed i (set ss i v) x) p r
 
-pub record ArmedAs (tinfo : ℕ) (meant : SlotUse) (i : ℕ) (s : Slot) (ss : List Slot) (x : Hart) (rest : List Transfer) : Type 0 where
+pub record ArmedAs (v : Version) (meant : SlotUse) (i : ℕ) (s : Slot) (ss : List Slot) (x : Hart) (rest : List Transfer) : Type 0 where
   pub what : What
   pub named : use_named meant ≡ Armed what
-  pub passed : Passed (armed_by tinfo meant ++ rest) (posed i ss x) rest (posed i (set ss i (armed_for what s)) x)
+  pub passed : Passed (armed_by v meant ++ rest) (posed i ss x) rest (posed i (set ss i (armed_for what s)) x)
 
--- the hart keeps a trigger that is written as its tinfo offers it
-kept_trigger : (tinfo : ℕ) (x : Hart) (t : Trigger) → version_offered tinfo ≡ x.debug.version → CountFits t
-    → trigger_of x.debug.version (tdata1_of (version_offered tinfo) t) ≡ t
-kept_trigger tinfo x t offered fits = ap (λ v. trigger_of x.debug.version (tdata1_of v t)) offered ∙ trigger_read_back x.debug.version t fits
+-- the hart keeps a trigger that is written as of its own release
+kept_trigger : (v : Version) (x : Hart) (t : Trigger) → v ≡ x.debug.version → CountFits t → trigger_of x.debug.version (tdata1_of v t) ≡ t
+kept_trigger v x t same fits = ap (λ u. trigger_of x.debug.version (tdata1_of u t)) same ∙ trigger_read_back x.debug.version t fits
 
-pub armed_as : (tinfo : ℕ) (meant : SlotUse) (i : ℕ) (s : Slot) (ss : List Slot) (x : Hart) (rest : List Transfer) → version_offered tinfo ≡ x.debug.version
+pub armed_as : (v : Version) (meant : SlotUse) (i : ℕ) (s : Slot) (ss : List Slot) (x : Hart) (rest : List Transfer) → v ≡ x.debug.version
     → CanArm meant → i < length ss → slot_at i ss ≡ s
-    → Shown (armed_by tinfo meant ++ rest) (posed i ss x) → ArmedAs tinfo meant i s ss x rest
-armed_as tinfo slot_use.Free i s ss x rest offered can lt here sh = absurd can
-armed_as tinfo (slot_use.Break a) i s ss x rest offered can lt here sh =
+    → Shown (armed_by v meant ++ rest) (posed i ss x) → ArmedAs v meant i s ss x rest
+armed_as v slot_use.Free i s ss x rest offered can lt here sh = absurd can
+armed_as v (slot_use.Break a) i s ss x rest offered can lt here sh =
     let t : Trigger = address_trigger true false false in
-    record { what = Break a; named = refl; passed = address_armed i a _ t s ss x rest (kept_trigger tinfo x t offered tt) lt here sh }
-armed_as tinfo (slot_use.Watch Load a) i s ss x rest offered can lt here sh =
+    record { what = Break a; named = refl; passed = address_armed i a _ t s ss x rest (kept_trigger v x t offered tt) lt here sh }
+armed_as v (slot_use.Watch Load a) i s ss x rest offered can lt here sh =
     let t : Trigger = watch_trigger Load in
-    record { what = Watch Load a; named = refl; passed = address_armed i a _ t s ss x rest (kept_trigger tinfo x t offered tt) lt here sh }
-armed_as tinfo (slot_use.Watch Store a) i s ss x rest offered can lt here sh =
+    record { what = Watch Load a; named = refl; passed = address_armed i a _ t s ss x rest (kept_trigger v x t offered tt) lt here sh }
+armed_as v (slot_use.Watch Store a) i s ss x rest offered can lt here sh =
     let t : Trigger = watch_trigger Store in
-    record { what = Watch Store a; named = refl; passed = address_armed i a _ t s ss x rest (kept_trigger tinfo x t offered tt) lt here sh }
-armed_as tinfo (slot_use.Watch Access a) i s ss x rest offered can lt here sh =
+    record { what = Watch Store a; named = refl; passed = address_armed i a _ t s ss x rest (kept_trigger v x t offered tt) lt here sh }
+armed_as v (slot_use.Watch Access a) i s ss x rest offered can lt here sh =
     let t : Trigger = watch_trigger Access in
-    record { what = Watch Access a; named = refl; passed = address_armed i a _ t s ss x rest (kept_trigger tinfo x t offered tt) lt here sh }
-armed_as tinfo (slot_use.Count n) i s ss x rest offered can lt here sh =
+    record { what = Watch Access a; named = refl; passed = address_armed i a _ t s ss x rest (kept_trigger v x t offered tt) lt here sh }
+armed_as v (slot_use.Count n) i s ss x rest offered can lt here sh =
     let small : n ≤ 16383 = can.1 in
     let t : Trigger = count_trigger n in
-    record { what = Count n; named = refl; passed = trigger_set i _ t s ss x rest (kept_trigger tinfo x t offered (omega (arith, small))) here sh }
-armed_as tinfo (slot_use.Other w) i s ss x rest offered can lt here sh = absurd can
+    record { what = Count n; named = refl; passed = trigger_set i _ t s ss x rest (kept_trigger v x t offered (omega (arith, small))) here sh }
+armed_as v (slot_use.Other w) i s ss x rest offered can lt here sh = absurd can
 
 -- ---- the selected slot is freed
 

@@ -24,7 +24,7 @@ use Rattle.probe_trig.specs.declared.register.TriggerRegister.TheVariants.{Dcsr,
 use Rattle.probe_trig.specs.Slots.{DebugAlone}
 use Rattle.probe_trig.specs.Transfers.{Attempt, AttemptFailed, FailedIn, Transfer, number_of}
 use Rattle.probe_trig.specs.Transfers.Attempt.{Getting, Setting}
-use Rattle.probe_trig.specs.Transfers.Transfer.{Got, Set}
+use Rattle.probe_trig.specs.Transfers.Transfer.{Got, Lacked, Set}
 use Rattle.probe_trig.proofs.Told.{Led, becomes, board_with, but_wrote, frozen_at, frozen_halted, frozen_played, made_led, now_there, over_here, played}
 
 -- ---- the hart
@@ -55,6 +55,7 @@ alone_written x y r v d =
 alone_played : (ts : List Transfer) (x y : Hart) → DebugAlone x y → DebugAlone x (played ts y)
 alone_played [] x y d = d
 alone_played (Got r v ∷ ts) x y d = alone_played ts x y d
+alone_played (Lacked r ∷ ts) x y d = alone_played ts x y d
 alone_played (Set r v ∷ ts) x y d = alone_played ts x (debug_written y (number_of r) v) (alone_written x y r v d)
 
 pub alone : (x : Hart) → DebugAlone x x

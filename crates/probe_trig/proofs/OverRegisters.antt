@@ -50,7 +50,7 @@ use Rattle.probe_trig.specs.StepCuts.{OverAlone, addresses_of}
 use Rattle.probe_trig.specs.Stepping.{EndsAny, ending}
 use Rattle.probe_trig.specs.Transfers.{Attempt, Begins, FailedIn, Transfer, number_of}
 use Rattle.probe_trig.specs.Transfers.Attempt.{Getting, Setting}
-use Rattle.probe_trig.specs.Transfers.Transfer.{Got, Set}
+use Rattle.probe_trig.specs.Transfers.Transfer.{Got, Lacked, Set}
 use Rattle.probe_trig.specs.SlotRegisters.{shows_hit, trigger_changed, word_changed}
 use Rattle.probe_trig.proofs.Calls.{changes_all}
 use Rattle.probe_trig.proofs.CutLemmas.{alone, alone_written, attempt_cut, broke_off, may}
@@ -104,6 +104,7 @@ over_changed how x = record {
 
 abbrev pub Mild : Transfer → Type 0
 Mild (Got r v) = Unit {0}
+Mild (Lacked r) = Unit {0}
 Mild (Set Tselect v) = Unit {0}
 Mild (Set Tdata1 v) = Unit {0}
 Mild (Set Tdata2 v) = ⊥
@@ -173,6 +174,7 @@ over_written x y Dcsr v m p = absurd m
 over_played : (ts : List Transfer) (x y : Hart) → AllMild ts → OverAlone x y → OverAlone x (played ts y)
 over_played [] x y m p = p
 over_played (Got r v ∷ ts) x y m p = over_played ts x y m.1 p
+over_played (Lacked r ∷ ts) x y m p = over_played ts x y m.1 p
 over_played (Set r v ∷ ts) x y m p = over_played ts x (debug_written y (number_of r) v) m.1 (over_written x y r v m.0 p)
 
 -- ---- the call

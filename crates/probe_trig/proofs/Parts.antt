@@ -16,6 +16,8 @@ use Rattle.std.proofs.Common.{
   [],
   ◌∷◌,
   set,
+  Option,
+  None,
   Some,
   slice_get,
   refl,
@@ -45,8 +47,8 @@ use Rattle.probe_trig.specs.declared.change.Change.{Change}
 use Rattle.probe_trig.specs.declared.change.Change.TheVariants as change
 use Rattle.probe_trig.specs.declared.register.TriggerRegister.{TriggerRegister}
 use Rattle.probe_trig.specs.declared.register.TriggerRegister.TheVariants.{Tdata1, Tdata2, Tinfo, Tselect}
-use Rattle.probe_trig.specs.Runs.{hit_changed, slot_changed, word_read}
-use Rattle.probe_trig.specs.Transfers.{Transfer, number_of}
+use Rattle.probe_trig.specs.Runs.{arming_version, hit_changed, slot_changed, word_read}
+use Rattle.probe_trig.specs.Transfers.{Transfer, asked, number_of}
 use Rattle.probe_trig.specs.Transfers.Transfer.{Got, Set}
 use Rattle.probe_trig.specs.SlotRegisters.{shows_hit, trigger_changed, word_changed}
 use Rattle.probe_trig.proofs.Shows.{address_shown, shows_as_hit}
@@ -133,13 +135,14 @@ word_passed i w k ss x rest small s =
 
 -- ---- its tinfo is read
 
-pub record TinfoPassed (tinfo i : ℕ) (ss : List Slot) (x : Hart) (rest : List Transfer) : Type 0 where
-  pub offered : version_offered tinfo ≡ x.debug.version
-  pub passed : Passed (Got Tinfo tinfo ∷ rest) (posed i ss x) rest (posed i ss x)
+pub record TinfoPassed (release : Version) (tinfo : Option ℕ) (i : ℕ) (ss : List Slot) (x : Hart) (rest : List Transfer) : Type 0 where
+  pub offered : arming_version release tinfo ≡ x.debug.version
+  pub passed : Passed (asked Tinfo tinfo ++ rest) (posed i ss x) rest (posed i ss x)
 
-pub tinfo_passed : (tinfo i : ℕ) (ss : List Slot) (x : Hart) (rest : List Transfer) → Shown (Got Tinfo tinfo ∷ rest) (posed i ss x)
-    → TinfoPassed tinfo i ss x rest
-tinfo_passed tinfo i ss x rest s = record {
+pub tinfo_passed : (release : Version) (tinfo : Option ℕ) (i : ℕ) (ss : List Slot) (x : Hart) (rest : List Transfer)
+    → Shown (asked Tinfo tinfo ++ rest) (posed i ss x) → TinfoPassed release tinfo i ss x rest
+tinfo_passed release None i ss x rest s = absurd s
+tinfo_passed release (Some tinfo) i ss x rest s = record {
   offered = ap version_offered (same_value (tinfo_value x.debug.version) tinfo (sym (tinfo_holds i ss x) ∙ s.0)) ∙ (releases_shown x.debug.version).offered;
   passed = passed_got Tinfo tinfo rest (posed i ss x) s;
 }

@@ -2,6 +2,7 @@
 use Rattle.std.proofs.Common.{◌≡◌, ◌∙◌, ◌<◌, ◌++◌, ℕ, true, false, List, ◌∷◌, set, length, Some, None, slice_get, refl, sym, ap, arith, append_assoc}
 use Rattle.std.proofs.lemmas.Option.{get_or_from_slice_get, slice_get_within}
 use Rattle.rv_model.specs.declared.slot.Slot.{Slot}
+use Rattle.rv_model.specs.declared.version.Version.{Version}
 use Rattle.rv_model.specs.Board.{free_slot}
 use Rattle.abstract_debugger.specs.Debugger.{is_free_slot}
 use Rattle.abstract_debugger.specs.Plan.{slot_changed, slot_freed, with_debug_part}
@@ -9,9 +10,9 @@ use Rattle.abstract_debugger.specs.Slots.{armed_for, first_free, freed as slot_f
 use Rattle.abstract_debugger.proofs.OverLemmas.{set-over}
 use Rattle.probe_trig.specs.declared.register.TriggerRegister.TheVariants.{Tinfo, Tselect}
 use Rattle.debug_model.specs.declared.slot_use.SlotUse.{SlotUse}
-use Rattle.probe_trig.specs.Runs.{Arms, Finds, FindsNone, Frees, armed_by, freed, put_back, word_read, words_read}
+use Rattle.probe_trig.specs.Runs.{Arms, Finds, FindsNone, Frees, armed_by, arming_version, freed, put_back, word_read, words_read}
 use Rattle.probe_trig.specs.Slots.{ArmedAt, FreedAt, FullAt, UnusedAt}
-use Rattle.probe_trig.specs.Transfers.{Transfer}
+use Rattle.probe_trig.specs.Transfers.{Transfer, asked}
 use Rattle.probe_trig.specs.Transfers.Transfer.{Got}
 use Rattle.probe_trig.specs.SlotRegisters.{CanArm}
 use Rattle.probe_trig.proofs.ArmedSlots.{ArmedAs, WordsPassed, armed_as, slot_freed as slot_freed_passed, there_at, words_passed}
@@ -75,7 +76,7 @@ makes_unused slot h small x ts old new is whole frozen r sh w =
 -- ---- a slot is armed
 
 pub makes_armed : (meant : SlotUse) (slot h : ℕ) → CanArm meant → Makes (Arms meant (Some slot)) h (ArmedAt meant slot h)
-makes_armed meant slot h can x ts old new is whole frozen r sh w =
+makes_armed meant slot h can x ts old new is whole frozen (release, r) sh w =
     let k : ℕ = x.debug.tselect in
     let ss : List Slot = x.debug.slots in
     let f : Finds slot r.sought = r.seeks in
@@ -84,33 +85,35 @@ makes_armed meant slot h can x ts old new is whole frozen r sh w =
     let s : Slot = slot_at slot ss in
     let at : slice_get ss slot ≡ Some s = there_at slot ss lt in
     let r3 : List Transfer = put_back r.kept in
-    let r2' : List Transfer = armed_by r.tinfo meant ++ r3 in
-    let r2 : List Transfer = Got Tinfo r.tinfo ∷ r2' in
+    let v : Version = arming_version release r.tinfo in
+    let r2' : List Transfer = armed_by v meant ++ r3 in
+    let r2 : List Transfer = asked Tinfo r.tinfo ++ r2' in
     let r1 : List Transfer = word_read slot f.tdata1 ++ r2 in
     let r0 : List Transfer = words_read 0 f.vain ++ r1 in
     let all : ts ≡ Got Tselect r.kept ∷ r0 =
-    r.is ∙ ap (λ (zs : List Transfer). Got Tselect r.kept ∷ (zs ++ r2)) f.is
+    r.is ∙ ap (λ (zs : List Transfer). Got Tselect r.kept ∷ (r.sought ++ zs)) (append_assoc (asked Tinfo r.tinfo) (armed_by v meant) r3)
+    ∙ ap (λ (zs : List Transfer). Got Tselect r.kept ∷ (zs ++ r2)) f.is
     ∙ ap (λ (zs : List Transfer). Got Tselect r.kept ∷ zs) (append_assoc (words_read 0 f.vain) (word_read slot f.tdata1) r2) in
     let sh0 : Shown (Got Tselect r.kept ∷ r0) (posed k ss x) = shown_from ts (Got Tselect r.kept ∷ r0) x (posed k ss x) all refl sh in
     let p : Passed (Got Tselect r.kept ∷ r0) (posed k ss x) r0 (posed k ss x) = passed_got Tselect r.kept r0 (posed k ss x) sh0 in
     let a : WordsPassed 0 f.vain ss k x r1 = words_passed 0 f.vain ss k x r1 whole.slots whole.counts (omega (arith, f.used.few)) f.used.all p.shown in
     let q : WordPassed slot f.tdata1 ss a.last x r2 = word_passed slot f.tdata1 a.last ss x r2 small a.passed.shown in
-    let t : TinfoPassed r.tinfo slot ss x r2' = tinfo_passed r.tinfo slot ss x r2' q.passed.shown in
-    let v : ArmedAs r.tinfo meant slot s ss x r3 = armed_as r.tinfo meant slot s ss x r3 t.offered can lt refl t.passed.shown in
+    let t : TinfoPassed release r.tinfo slot ss x r2' = tinfo_passed release r.tinfo slot ss x r2' q.passed.shown in
+    let u : ArmedAs v meant slot s ss x r3 = armed_as v meant slot s ss x r3 t.offered can lt refl t.passed.shown in
     record {
       lowest = ap first_free (slots_there h x old.board is)
           ∙ lowest_free ss slot s at (sym (shows_as_free x.debug.version f.tdata1 s.trigger (whole.counts slot s at) q.word) ∙ f.free)
-          (λ j z below here. ap (λ (u : Slot). is_free u.trigger) (sym (is_there j z ss here)) ∙ a.used j (omega arith) (omega (arith, below, f.here)));
-      what = v.what;
-      what_is = v.named;
-      wrote = wrote_as h x (played ts x) (with_debug_part (slot_changed slot v.what)) old new is frozen
-          (played_from ts (Got Tselect r.kept ∷ r0) x (posed k ss x) all refl ∙ p.is ∙ a.passed.is ∙ q.passed.is ∙ t.passed.is ∙ v.passed.is
-          ∙ put_back_is r.kept k slot (set ss slot (armed_for v.what s)) x (kept_is r.kept k ss x r0 sh0) whole.selected
-          ∙ ap (λ zs. posed k zs x) (set-over (armed_for v.what) ss slot s at)) w;
+          (λ j z below here. ap (λ (y : Slot). is_free y.trigger) (sym (is_there j z ss here)) ∙ a.used j (omega arith) (omega (arith, below, f.here)));
+      what = u.what;
+      what_is = u.named;
+      wrote = wrote_as h x (played ts x) (with_debug_part (slot_changed slot u.what)) old new is frozen
+          (played_from ts (Got Tselect r.kept ∷ r0) x (posed k ss x) all refl ∙ p.is ∙ a.passed.is ∙ q.passed.is ∙ t.passed.is ∙ u.passed.is
+          ∙ put_back_is r.kept k slot (set ss slot (armed_for u.what s)) x (kept_is r.kept k ss x r0 sh0) whole.selected
+          ∙ ap (λ zs. posed k zs x) (set-over (armed_for u.what) ss slot s at)) w;
     }
 
 pub makes_full : (meant : SlotUse) (h : ℕ) → Makes (Arms meant None) h (FullAt h)
-makes_full meant h x ts old new is whole frozen r sh w =
+makes_full meant h x ts old new is whole frozen (release, r) sh w =
     let k : ℕ = x.debug.tselect in
     let ss : List Slot = x.debug.slots in
     let f : FindsNone r.sought = r.seeks in

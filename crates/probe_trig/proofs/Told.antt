@@ -22,7 +22,7 @@ use Rattle.std.proofs.Common.{
   false,
 }
 use Rattle.std.proofs.lemmas.Bool.{false≢true}
-use Rattle.std.proofs.lemmas.Option.{same_Some}
+use Rattle.std.proofs.lemmas.Option.{none-some, same_Some}
 use Rattle.rv_model.specs.declared.cause.Cause.{Cause}
 use Rattle.rv_model.specs.Board.{Board, DebugPart, Hart, IsHart}
 use Rattle.rv_model.specs.DebugLaws.{WriteKeeps}
@@ -46,7 +46,7 @@ use Rattle.probe_run.specs.Happens.{target_of}
 use Rattle.probe_trig.specs.Slots.{AtHarts}
 use Rattle.probe_trig.specs.Transfers.{Did, Made, Transfer, number_of}
 use Rattle.probe_trig.specs.Transfers.Made.{first, nothing}
-use Rattle.probe_trig.specs.Transfers.Transfer.{Got, Set}
+use Rattle.probe_trig.specs.Transfers.Transfer.{Got, Lacked, Set}
 use Rattle.probe_trig.proofs.Untold.{made_none}
 
 -- ---- along the transfers
@@ -55,12 +55,14 @@ use Rattle.probe_trig.proofs.Untold.{made_none}
 abbrev pub played : List Transfer → Hart → Hart
 played [] x = x
 played (Got r v ∷ ts) x = played ts x
+played (Lacked r ∷ ts) x = played ts x
 played (Set r v ∷ ts) x = played ts (debug_written x (number_of r) v)
 
--- what was read is what it held
+-- what was read is what it held, and it lacks no register
 abbrev pub Shown : List Transfer → Hart → Type 0
 Shown [] x = Unit {0}
 Shown (Got r v ∷ ts) x = (debug_value x (number_of r) ≡ Some v) × Shown ts x
+Shown (Lacked r ∷ ts) x = ⊥
 Shown (Set r v ∷ ts) x = Shown ts (debug_written x (number_of r) v)
 
 -- ---- one hart in the place of another
@@ -135,6 +137,7 @@ frozen_written x number v f =
 pub frozen_played : (ts : List Transfer) (x : Hart) → IsFrozen x.debug → IsFrozen (played ts x).debug
 frozen_played [] x f = f
 frozen_played (Got r v ∷ ts) x f = frozen_played ts x f
+frozen_played (Lacked r ∷ ts) x f = frozen_played ts x f
 frozen_played (Set r v ∷ ts) x f = frozen_played ts (debug_written x (number_of r) v) (frozen_written x (number_of r) v f)
 
 -- ---- a told link along the transfers
@@ -173,6 +176,7 @@ made_led h f x ts old new is frozen at (first {mid = now} {t = Got r v} {ts = mo
       wrote = led_then h x x more (site_of f) (site_of g.far) new.far is frozen frozen w g.passed.bus l;
       bus = l.bus ∙ g.passed.bus;
     }
+made_led h f x ts old new is frozen at (first {mid = now} {t = Lacked r} {ts = more} d rest) = absurd (none-some f (sym d.untold ∙ at))
 made_led h f x ts old new is frozen at (first {mid = now} {t = Set r v} {ts = more} d rest) =
     let g : RegisterWrittenAt h (number_of r) v f.live.chip now.far = subst (λ o. WhereTold (RegisterWrittenAt h (number_of r) v) o now.far) at d.set_to in
     let same : g.hart ≡ x = same_Some g.hart x (sym g.here ∙ is) in

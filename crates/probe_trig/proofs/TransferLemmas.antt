@@ -1,5 +1,5 @@
 -- Transfers made one after another, and one that failed behind others.
-use Rattle.std.proofs.Common.{◌≡◌, ◌∙◌, ◌≤◌, ◌++◌, ℕ, List, [], ◌∷◌, true, false, refl, sym, ap, subst, append_assoc}
+use Rattle.std.proofs.Common.{◌≡◌, ◌∙◌, ◌≤◌, ◌++◌, ℕ, List, [], ◌∷◌, true, false, Some, refl, sym, ap, subst, append_assoc}
 use Rattle.probe_access.specs.declared.fault.AccessFault.{AccessFault}
 use Rattle.probe_access.specs.RegisterRuns.{ReadFailed, WriteFailed}
 use Rattle.probe_access.specs.Pending.{is_mip}
@@ -9,7 +9,7 @@ use Rattle.probe_access.proofs.Counted.{read_counted, write_counted}
 use Rattle.probe_run.specs.Acts.{Tells}
 use Rattle.probe_trig.specs.declared.register.TriggerRegister.{TriggerRegister}
 use Rattle.probe_trig.specs.declared.register.TriggerRegister.TheVariants.{Tselect, Tdata1, Tdata2, Tinfo, Dcsr}
-use Rattle.probe_trig.specs.Single.{OneGot, OneSet}
+use Rattle.probe_trig.specs.Single.{OneAsked, OneGot, OneSet}
 use Rattle.probe_trig.specs.Transfers.{Attempt, AttemptFailed, Begins, FailedIn, Made, Transfer, Transferred, number_of}
 use Rattle.probe_trig.specs.Transfers.Attempt.{Getting, Setting}
 use Rattle.probe_trig.specs.Transfers.Made.{first, nothing}
@@ -81,6 +81,19 @@ pub get_failed : (r : TriggerRegister) (h old_count new_count : ℕ) (old new : 
     → IfCut (Leaves (LeftAside Unchanged h) old.far new.far) e → FailedIn (OneGot r) h old_count new_count old new e
 get_failed r h old_count new_count old new e read left cut =
     record { done = []; attempt = Getting r; begins = (0, [], (0, refl)); mid = old; made = nothing; failed = record { read = read; left = left; cut = cut } }
+
+pub ask_failed : (r : TriggerRegister) (h old_count new_count : ℕ) (old new : Tells) (e : AccessFault) → ReadFailed (number_of r) old_count new_count old new e
+    → RegisterLeft false h (number_of r) old.far new.far e
+    → IfCut (Leaves (LeftAside Unchanged h) old.far new.far) e → FailedIn (OneAsked r) h old_count new_count old new e
+ask_failed r h old_count new_count old new e read left cut =
+    record {
+      done = [];
+      attempt = Getting r;
+      begins = (0, [], (Some 0, refl));
+      mid = old;
+      made = nothing;
+      failed = record { read = read; left = left; cut = cut };
+    }
 
 pub set_failed : (r : TriggerRegister) (value h old_count new_count : ℕ) (old new : Tells) (e : AccessFault)
     → WriteFailed (number_of r) value old_count new_count old new e → RegisterLeft true h (number_of r) old.far new.far e

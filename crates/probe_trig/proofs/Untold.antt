@@ -1,5 +1,5 @@
 -- What a chip that is not told goes on not telling, and that no register of a slot is refused by a told chip.
-use Rattle.std.proofs.Common.{◌≡◌, ◌∙◌, ℕ, Bool, true, false, List, Option, Some, None, refl, sym}
+use Rattle.std.proofs.Common.{◌≡◌, ◌∙◌, ℕ, Bool, true, false, List, Option, Some, None, refl, sym, subst}
 use Rattle.std.proofs.lemmas.Bool.{false≢true}
 use Rattle.std.proofs.lemmas.Option.{none-some}
 use Rattle.rv_model.specs.Board.{Hart}
@@ -16,10 +16,11 @@ use Rattle.probe_run.specs.Acts.{Tells, tells}
 use Rattle.debug_model.specs.Dmi.{DmiComing}
 use Rattle.probe_trig.specs.declared.register.TriggerRegister.{TriggerRegister}
 use Rattle.probe_trig.specs.declared.register.TriggerRegister.TheVariants.{Dcsr, Tdata1, Tdata2, Tinfo, Tselect}
-use Rattle.probe_trig.specs.Transfers.{Attempt, AttemptFailed, FailedIn, Made, Transfer, Transferred, number_of}
+use Rattle.probe_access.specs.RegisterRuns.{ReadFailed}
+use Rattle.probe_trig.specs.Transfers.{Attempt, AttemptFailed, DidLack, FailedIn, Made, Transfer, Transferred, number_of}
 use Rattle.probe_trig.specs.Transfers.Attempt.{Getting, Setting}
 use Rattle.probe_trig.specs.Transfers.Made.{first, nothing}
-use Rattle.probe_trig.specs.Transfers.Transfer.{Got, Set}
+use Rattle.probe_trig.specs.Transfers.Transfer.{Got, Lacked, Set}
 
 -- ---- a chip that is not told
 
@@ -33,6 +34,7 @@ set_back h number value (Some f) new g end = absurd (none-some g.far (sym end �
 
 moved_back : (h : ℕ) (t : Transfer) (old new : Tells) → Transferred h t old new → new.far ≡ None → old.far ≡ None
 moved_back h (Got r v) old new d end = got_back h (number_of r) v old.far new.far d.got end
+moved_back h (Lacked r) old new d end = d.untold
 moved_back h (Set r v) old new d end = set_back h (number_of r) v old.far new.far d.set_to end
 
 pub made_back : (h : ℕ) (ts : List Transfer) (old new : Tells) → Made h old ts new → new.far ≡ None → old.far ≡ None
@@ -49,6 +51,7 @@ set_none h number value (Some f) new g end = absurd (none-some f (sym end))
 
 moved_none : (h : ℕ) (t : Transfer) (old new : Tells) → Transferred h t old new → old.far ≡ None → new.far ≡ None
 moved_none h (Got r v) old new d end = got_none h (number_of r) v old.far new.far d.got end
+moved_none h (Lacked r) old new d end = d.still_untold
 moved_none h (Set r v) old new d end = set_none h (number_of r) v old.far new.far d.set_to end
 
 pub made_none : (h : ℕ) (ts : List Transfer) (old new : Tells) → Made h old ts new → old.far ≡ None → new.far ≡ None
@@ -73,6 +76,25 @@ reached false x Dcsr = refl
 not_denied : (write : Bool) (h : ℕ) (r : TriggerRegister) (old new : Option Far) → WhereTold (RegisterRefusedAt write h (number_of r)) old new → old ≡ None
 not_denied write h r None new d = refl
 not_denied write h r (Some f) new d = absurd (false≢true (sym d.denied ∙ reached write d.hart r))
+
+denied_none : (write : Bool) (h number : ℕ) (old new : Option Far) → WhereTold (RegisterRefusedAt write h number) old new → old ≡ None → new ≡ None
+denied_none write h number None new d none = d
+denied_none write h number (Some f) new d none = absurd (none-some f (sym none))
+
+-- so where one is there is no chip that is told
+pub lacked : (h number : ℕ) (r : TriggerRegister) (old_count new_count : ℕ) (old new : Tells) (e : AccessFault) → e ≡ access_fault.Register number
+    → ReadFailed (number_of r) old_count new_count old new e → RegisterLeft false h (number_of r) old.far new.far e → DidLack h r old new
+lacked h number r old_count new_count old new e is failed left =
+    let denied : WhereTold (RegisterRefusedAt false h (number_of r)) old.far new.far = subst (RegisterLeft false h (number_of r) old.far new.far) is left in
+    let none : old.far ≡ None = not_denied false h r old.far new.far denied in
+    record {
+      old_count = old_count;
+      new_count = new_count;
+      number = number;
+      refused = subst (ReadFailed (number_of r) old_count new_count old new) is failed;
+      untold = none;
+      still_untold = denied_none false h (number_of r) old.far new.far denied none;
+    }
 
 register_left : (write : Bool) (h : ℕ) (r : TriggerRegister) (old new : Option Far) (e : AccessFault) → RegisterLeft write h (number_of r) old new e
     → ScratchLeft old e

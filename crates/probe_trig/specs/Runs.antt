@@ -2,13 +2,14 @@
 -- RISC-V Debug Specification 1.0, "Trigger Select": a slot's registers are reached while tselect names it; "Trigger Info": tinfo has a bit for each type that
 -- it offers. That tselect is read first and put back last, and that slots are visited from the lowest on, is this project's own.
 use Rattle.std.specs.Prelude.{◌≡◌, ◌++◌, ◌<◌, ℕ, suc, List, [], ◌∷◌, All, length, Bool, true, false, Option, Some, None, if◌then◌else◌}
-use Rattle.rv_model.specs.TriggerWords.{disabled_word}
+use Rattle.rv_model.specs.declared.version.Version.{Version}
+use Rattle.rv_model.specs.TriggerWords.{disabled_word, version_offered}
 use Rattle.rv_model.specs.Board.{slot_count}
 use Rattle.probe_trig.specs.declared.change.Change.{Change}
 use Rattle.probe_trig.specs.declared.register.TriggerRegister.TheVariants.{Tselect, Tdata1, Tdata2, Tinfo}
 use Rattle.debug_model.specs.declared.slot_use.SlotUse.{SlotUse}
 use Rattle.probe_trig.specs.declared.slot_words.SlotWords.{SlotWords}
-use Rattle.probe_trig.specs.Transfers.{Transfer}
+use Rattle.probe_trig.specs.Transfers.{Transfer, asked}
 use Rattle.probe_trig.specs.Transfers.Transfer.{Got, Set}
 use Rattle.probe_trig.specs.SlotRegisters.{address_named, shows_free, shows_hit, word_changed, word_named}
 
@@ -67,13 +68,18 @@ abbrev pub address_set : Option ℕ → List Transfer
 address_set (Some address) = Set Tdata2 address ∷ []
 address_set None = []
 
--- a slot of this tinfo is armed
-abbrev pub armed_by : ℕ → SlotUse → List Transfer
-armed_by tinfo what = address_set (address_named what) ++ Set Tdata1 (word_named tinfo what) ∷ []
+-- a slot is armed, with an address trigger of this release's type
+abbrev pub armed_by : Version → SlotUse → List Transfer
+armed_by v what = address_set (address_named what) ++ Set Tdata1 (word_named v what) ∷ []
 
--- which types the slot offers is read first
-abbrev pub armed : SlotUse → ℕ → List Transfer
-armed what tinfo = Got Tinfo tinfo ∷ armed_by tinfo what
+-- the release whose type of address triggers the slot offers by its tinfo; where the hart has no tinfo, the one that its chip follows
+abbrev pub arming_version : Version → Option ℕ → Version
+arming_version release (Some tinfo) = version_offered tinfo
+arming_version release None = release
+
+-- which types the slot offers is asked first
+abbrev pub armed : Version → SlotUse → Option ℕ → List Transfer
+armed release what tinfo = asked Tinfo tinfo ++ armed_by (arming_version release tinfo) what
 
 -- this slot is the lowest free one
 pub record Finds (slot : ℕ) (ts : List Transfer) : Type 0 where
@@ -99,16 +105,20 @@ abbrev pub SeeksAny : List Transfer → Type 0
 SeeksAny ts = (found : Option ℕ) × Seeks found ts
 
 -- where there is a free one; tinfo is read of no other
-abbrev pub armed_at : SlotUse → Option ℕ → ℕ → List Transfer
-armed_at what (Some slot) tinfo = armed what tinfo
-armed_at what None tinfo = []
+abbrev pub armed_at : Version → SlotUse → Option ℕ → Option ℕ → List Transfer
+armed_at release what (Some slot) tinfo = armed release what tinfo
+armed_at release what None tinfo = []
 
-pub record Arms (what : SlotUse) (found : Option ℕ) (ts : List Transfer) : Type 0 where
+-- at a chip of this release
+pub record ArmsOn (release : Version) (what : SlotUse) (found : Option ℕ) (ts : List Transfer) : Type 0 where
   pub kept : ℕ
   pub sought : List Transfer
   pub seeks : Seeks found sought
-  pub tinfo : ℕ
-  pub is : ts ≡ Got Tselect kept ∷ (sought ++ (armed_at what found tinfo ++ put_back kept))
+  pub tinfo : Option ℕ
+  pub is : ts ≡ Got Tselect kept ∷ (sought ++ (armed_at release what found tinfo ++ put_back kept))
+
+abbrev pub Arms : SlotUse → Option ℕ → List Transfer → Type 0
+Arms what found ts = (release : Version) × ArmsOn release what found ts
 
 abbrev pub ArmsAny : SlotUse → List Transfer → Type 0
 ArmsAny what ts = (found : Option ℕ) × Arms what found ts

@@ -4,8 +4,9 @@
 use Rattle.std.specs.Prelude.{ℕ, ◌==◌, ◌≤◌, Bool, true, false, Option, Some, None, if◌then◌else◌}
 use Rattle.rv_model.specs.declared.slot.Trigger.{Trigger}
 use Rattle.rv_model.specs.declared.slot.Trigger.TheVariants.{Disabled}
+use Rattle.rv_model.specs.declared.version.Version.{Version}
 use Rattle.rv_model.specs.Fields.{field}
-use Rattle.rv_model.specs.TriggerWords.{tdata1_of, trigger_of, version_offered, version_shown}
+use Rattle.rv_model.specs.TriggerWords.{tdata1_of, trigger_of, version_shown}
 use Rattle.abstract_debugger.specs.Slots.{
   Use,
   address_trigger,
@@ -62,9 +63,9 @@ trigger_named (slot_use.Watch kind address) = watch_trigger kind
 trigger_named (slot_use.Count turns) = count_trigger turns
 trigger_named (slot_use.Other tdata1) = Disabled
 
--- the word that arms a slot of this tinfo for it, by the type that the slot offers
-abbrev pub word_named : ℕ → SlotUse → ℕ
-word_named tinfo what = tdata1_of (version_offered tinfo) (trigger_named what)
+-- the word that arms a slot for it, with an address trigger of this release's type
+abbrev pub word_named : Version → SlotUse → ℕ
+word_named v what = tdata1_of v (trigger_named what)
 
 -- the address that it compares with
 abbrev pub address_named : SlotUse → Option ℕ

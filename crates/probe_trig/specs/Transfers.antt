@@ -1,10 +1,11 @@
 -- The registers of a halted hart that are read and written one after another, with what was read and written, and where that broke off.
 -- RISC-V Debug Specification 1.0, "Access Register"; that these are the registers which slots need is this project's own.
-use Rattle.std.specs.Prelude.{◌++◌, ℕ, List, [], ◌∷◌, true, false}
+use Rattle.std.specs.Prelude.{◌≡◌, ◌++◌, ℕ, List, [], ◌∷◌, true, false, Option, None, Some}
 use Rattle.debug_model.specs.Scan.{WhereTold}
 use Rattle.rv_model.specs.DebugRegisters.{dcsr_number}
 use Rattle.rv_model.specs.TriggerWords.{tdata1_number, tdata2_number, tinfo_number, tselect_number}
 use Rattle.probe_access.specs.declared.fault.AccessFault.{AccessFault}
+use Rattle.probe_access.specs.declared.fault.AccessFault.TheVariants as access_fault
 use Rattle.probe_access.specs.Cuts.{IfCut, LeftAside, Leaves, MaybeWritten, Unchanged}
 use Rattle.probe_access.specs.RegisterRuns.{ReadFailed, RegisterRead, RegisterWritten, WriteFailed}
 use Rattle.probe_access.specs.Registers.{RegisterReadAt, RegisterLeft, RegisterWrittenAt}
@@ -19,11 +20,26 @@ number_of Tdata2 = tdata2_number
 number_of Tinfo = tinfo_number
 number_of Dcsr = dcsr_number
 
--- ---- transfers that were Ok
+-- ---- transfers that were answered
 
 pub data Transfer : Type 0 where
   Got : (register : TriggerRegister) → (value : ℕ) → Transfer  -- it was read as this
+  Lacked : (register : TriggerRegister) → Transfer  -- it was asked for, and there is no such register
   Set : (register : TriggerRegister) → (value : ℕ) → Transfer  -- this was written
+
+-- a register that there may be or not
+abbrev pub asked : TriggerRegister → Option ℕ → List Transfer
+asked r (Some value) = Transfer.Got r value ∷ []
+asked r None = Transfer.Lacked r ∷ []
+
+-- a told chip has each of these registers
+pub record DidLack (h : ℕ) (r : TriggerRegister) (old new : Tells) : Type 0 where
+  pub old_count : ℕ
+  pub new_count : ℕ
+  pub number : ℕ
+  pub refused : ReadFailed (number_of r) old_count new_count old new (access_fault.Register number)
+  pub untold : old.far ≡ None
+  pub still_untold : new.far ≡ None
 
 -- along the link, and at hart h of a told chip
 pub record DidGet (h : ℕ) (r : TriggerRegister) (value : ℕ) (old new : Tells) : Type 0 where
@@ -36,6 +52,7 @@ pub record DidSet (h : ℕ) (r : TriggerRegister) (value : ℕ) (old new : Tells
 
 abbrev pub Transferred : ℕ → Transfer → Tells → Tells → Type 0
 Transferred h (Transfer.Got r value) old new = DidGet h r value old new
+Transferred h (Transfer.Lacked r) old new = DidLack h r old new
 Transferred h (Transfer.Set r value) old new = DidSet h r value old new
 
 -- just these transfers were made, in this order

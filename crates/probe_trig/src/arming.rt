@@ -7,14 +7,14 @@ ghost use Rattle.probe_access.specs.Scratches.{ScratchLeft};
 ghost use Rattle.abstract_debugger.specs.Slots.{address_trigger};
 ghost use Rattle.rv_model.specs.TriggerWords.{CountFits};
 ghost use Rattle.probe_trig.specs.Faults.{ByFault, IfAccess, UnlessAccess, trig_why};
-ghost use Rattle.probe_trig.specs.Runs.{Arms, ArmsAny, Seeks, SeeksAny, address_set, armed_by};
+ghost use Rattle.probe_trig.specs.Runs.{Arms, ArmsAny, ArmsOn, Seeks, SeeksAny, address_set, armed_by, arming_version};
 ghost use Rattle.probe_trig.specs.Single.{AddressSet, Armed, ArmedBy};
 ghost use Rattle.probe_trig.specs.Slots.{ArmedAt, AtHarts, DebugAlone, FullAt};
 ghost use Rattle.probe_trig.specs.Transfers.{Did, FailedIn, Made};
-ghost use Rattle.probe_trig.specs.SlotRegisters.{CanArm, address_named, trigger_named, word_named};
+ghost use Rattle.probe_trig.specs.SlotRegisters.{CanArm, address_named, trigger_named};
 
 use crate::fault::TrigFault;
-use crate::register::{TriggerRegister, read_word, reg, set_reg};
+use crate::register::{TriggerRegister, read_word, reg, reg_or_none, set_reg};
 use crate::words::shows_free;
 use debug_model::{Dmi, SlotUse, WatchKind};
 use probe_access::AccessFault;
@@ -60,12 +60,15 @@ fn trigger_for(what: SlotUse) -> Trigger
     }
 }
 
-/// The word that arms a slot of this `tinfo` for it: an address trigger is of type 6 where the slot offers that, else of type 2.
-fn word_for(what: SlotUse, tinfo: u64) -> u64
-    requires can { CanArm what }
-    ensures { result ≡ word_named tinfo what }
+/// The release by whose type of address triggers a slot is armed: type 6 where its `tinfo` offers that, else type 2; without a `tinfo` the type of
+/// the release that its chip follows.
+fn arming_version(release: Version, tinfo: Option<u64>) -> Version
+    ensures { result ≡ arming_version release tinfo }
 {
-    trigger_for(what).tdata1(Version::offered_by(tinfo))
+    match tinfo {
+        Some(tinfo) => Version::offered_by(tinfo),
+        None => release,
+    }
 }
 
 /// The address that it compares with, if it does.
@@ -96,38 +99,39 @@ fn set_address<D: Dmi>(link: &mut D, halted: &Halted, what: SlotUse) -> Result<(
     }
 }
 
-/// Arms the selected slot, which has this `tinfo`.
-fn arm_offered<D: Dmi>(
+/// Arms the selected slot, with an address trigger of this release's type.
+fn arm_by<D: Dmi>(
     link: &mut D,
     halted: &Halted,
     what: SlotUse,
-    tinfo: u64,
+    version: Version,
 ) -> Result<(), AccessFault>
     requires can { CanArm what }
     requires stands { Stands (D.seen link.old) }
     requires serving { Serving halted.now.number (D.seen link.old).far }
-    ensures made { OnOk result (Made halted.now.number (told (D.seen link.old)) (armed_by tinfo what) (told (D.seen link.new))) }
-    ensures failed { IfErr result (Fails (FailedIn (ArmedBy tinfo what) halted.now.number) (D.seen link.old) (D.seen link.new)) }
+    ensures made { OnOk result (Made halted.now.number (told (D.seen link.old)) (armed_by version what) (told (D.seen link.new))) }
+    ensures failed { IfErr result (Fails (FailedIn (ArmedBy version what) halted.now.number) (D.seen link.old) (D.seen link.new)) }
     ensures serving { OnOk result (Serving halted.now.number (D.seen link.new).far) }
     ensures keeps { Keeps access_why (D.seen link.old) (D.seen link.new) result }
 {
     set_address(link, halted, what)?;
-    set_reg(link, halted, TriggerRegister::Tdata1, word_for(what, tinfo))?;
+    let tdata1 = trigger_for(what).tdata1(version);
+    set_reg(link, halted, TriggerRegister::Tdata1, tdata1)?;
     Ok(())
 }
 
-/// Arms the selected slot, by the types that it offers.
+/// Arms the selected slot, by the types that it offers, or by the release of its chip.
 fn arm_selected<D: Dmi>(link: &mut D, halted: &Halted, what: SlotUse) -> Result<(), AccessFault>
     requires can { CanArm what }
     requires callable { CanCall (D.seen link.old) }
     requires serving { Serving halted.now.number (D.seen link.old).far }
-    ensures did { OnOk result (Did (Armed what) halted.now.number (told (D.seen link.old)) (told (D.seen link.new))) }
-    ensures failed { IfErr result (Fails (FailedIn (Armed what) halted.now.number) (D.seen link.old) (D.seen link.new)) }
+    ensures did { OnOk result (Did (Armed halted.now.version what) halted.now.number (told (D.seen link.old)) (told (D.seen link.new))) }
+    ensures failed { IfErr result (Fails (FailedIn (Armed halted.now.version what) halted.now.number) (D.seen link.old) (D.seen link.new)) }
     ensures serving { OnOk result (Serving halted.now.number (D.seen link.new).far) }
     ensures keeps { Keeps access_why (D.seen link.old) (D.seen link.new) result }
 {
-    let tinfo = reg(link, halted, TriggerRegister::Tinfo)?;
-    arm_offered(link, halted, what, tinfo)?;
+    let tinfo = reg_or_none(link, halted, TriggerRegister::Tinfo)?;
+    arm_by(link, halted, what, arming_version(halted.version(), tinfo))?;
     Ok(())
 }
 
@@ -158,7 +162,7 @@ fn arm_lowest<D: Dmi>(
     requires can { CanArm what }
     requires callable { CanCall (D.seen link.old) }
     requires serving { Serving halted.now.number (D.seen link.old).far }
-    ensures did { IfOk result (λ found. Did (Arms what found) halted.now.number (told (D.seen link.old)) (told (D.seen link.new))) }
+    ensures did { IfOk result (λ found. Did (ArmsOn halted.now.version what found) halted.now.number (told (D.seen link.old)) (told (D.seen link.new))) }
     ensures failed { IfErr result (Fails (FailedIn (ArmsAny what) halted.now.number) (D.seen link.old) (D.seen link.new)) }
     ensures serving { OnOk result (Serving halted.now.number (D.seen link.new).far) }
     ensures keeps { Keeps access_why (D.seen link.old) (D.seen link.new) result }
@@ -179,13 +183,15 @@ fn arm_lowest<D: Dmi>(
 
 /// Arms the lowest free slot of the halted hart, which is selected, for a break, a watch, or a count from 1 to 16,383, and answers which it is,
 /// below 4. `NoFreeSlot` where all four are in use. An address trigger is of type 6 where `tinfo` of the slot offers that, and else of type 2
-/// (RISC-V External Debug Support 0.13.2, "Match Control"); a chip that has no `tinfo` answers `Access(Register(0x7a4))`.
+/// (RISC-V External Debug Support 0.13.2, "Match Control"); on a chip that has no `tinfo` it is of the type of the release that the opening read.
 pub fn arm<D: Dmi>(link: &mut D, halted: &Halted, what: SlotUse) -> Result<u8, TrigFault>
     requires can { CanArm what }
     requires callable { CanCall (D.seen link.old) }
     requires serving { Serving halted.now.number (D.seen link.old).far }
     ensures armed { IfOk result (λ slot. OnChip (AtHarts (ArmedAt what slot halted.now.number)) (D.seen link.old) (D.seen link.new)) }
     ensures did { IfOk result (λ slot. Did (Arms what (Some slot)) halted.now.number (told (D.seen link.old)) (told (D.seen link.new))) }
+    ensures release { IfOk result
+        (λ slot. Did (ArmsOn halted.now.version what (Some slot)) halted.now.number (told (D.seen link.old)) (told (D.seen link.new))) }
     ensures below { IfOk result (λ slot. slot < 4) }
     ensures left { IfErr result (ByFault (ScratchLeft (D.seen link.old).far)
         (OnChip (AtHarts (FullAt halted.now.number)) (D.seen link.old) (D.seen link.new))

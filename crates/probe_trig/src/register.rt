@@ -3,10 +3,10 @@ ghost use Rattle.debug_model.specs.Kept.{CanCall, Keeps};
 ghost use Rattle.probe_run.specs.Told.{told, Fails, Serving};
 ghost use Rattle.probe_access.specs.Faults.{access_why};
 ghost use Rattle.probe_trig.specs.Runs.{word_read};
-ghost use Rattle.probe_trig.specs.Transfers.{FailedIn, Made, number_of};
+ghost use Rattle.probe_trig.specs.Transfers.{FailedIn, Made, asked, number_of};
 ghost use Rattle.probe_trig.specs.Transfers.Transfer.{Got, Set};
 ghost use Rattle.probe_trig.specs.declared.register.TriggerRegister.TheVariants.{Tselect, Tdata1};
-ghost use Rattle.probe_trig.specs.Single.{OneGot, OneSet, WordRead};
+ghost use Rattle.probe_trig.specs.Single.{OneAsked, OneGot, OneSet, WordRead};
 
 use debug_model::Dmi;
 use probe_access::AccessFault;
@@ -58,6 +58,28 @@ pub fn reg<D: Dmi>(
 {
     let value = probe_access::held_reg(link, halted, register.number())?;
     Ok(value)
+}
+
+/// Reads a register that the harts of another chip may lack: `None` where there is no such register.
+pub fn reg_or_none<D: Dmi>(
+    link: &mut D,
+    halted: &Halted,
+    register: TriggerRegister,
+) -> Result<Option<u64>, AccessFault>
+    requires callable { CanCall (D.seen link.old) }
+    requires serving { Serving halted.now.number (D.seen link.old).far }
+    ensures made { IfOk result (λ value. Made halted.now.number (told (D.seen link.old)) (asked register value) (told (D.seen link.new))) }
+    ensures failed { IfErr result (Fails (FailedIn (OneAsked register) halted.now.number) (D.seen link.old) (D.seen link.new)) }
+    ensures serving { OnOk result (Serving halted.now.number (D.seen link.new).far) }
+    ensures keeps { Keeps access_why (D.seen link.old) (D.seen link.new) result }
+{
+    match probe_access::held_reg(link, halted, register.number()) {
+        Ok(value) => Ok(Some(value)),
+        Err(fault) => match fault {
+            AccessFault::Register(_) => Ok(None),
+            other => Err(other),
+        },
+    }
 }
 
 /// Writes a register of the halted hart.

@@ -66,3 +66,15 @@ fn a_hart_that_is_not_there_leaves_the_old_one_selected(rt: HostRuntime) -> Resu
         Ended::WithErrors,
     )
 }
+
+/// The word of hart 1 is the second of those that raise software interrupts.
+#[test]
+fn mip_is_of_the_selected_hart(rt: HostRuntime) -> Result<(), Fail> {
+    check_behind(
+        &rt,
+        rt.alloc(),
+        "reg mip\nwrite 4 0x2000004 1\nreg mip\nreg mip 0\nhart 0\nreg mip\n",
+        "mip 0x0000000000000000\nwrote 1\nmip 0x0000000000000008\nmip 0x0000000000000008\nhart 0\nmip 0x0000000000000000\n",
+        Ended::Clean,
+    )
+}

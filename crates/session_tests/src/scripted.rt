@@ -21,6 +21,14 @@ const OPENING: [u32; 5] = [0x1071, 1, 0x000c_0c83, 0x0400_0002, 0x2004_080f];
 /// A hart that runs: `anyrunning` and `allrunning`.
 const RUNNING: u32 = 0x0c83;
 
+/// A hart that is halted: `anyhalted` and `allhalted`.
+const STOPPED: u32 = 0x0383;
+
+/// `abstractcs` with no command under way and no error, and with `cmderr` 3 (RISC-V Debug Specification 1.0, "Abstract Control and Status").
+const ENDED: u32 = 0x0400_0002;
+
+const REFUSED: u32 = 0x0400_0302;
+
 /// A hart that is not there: `anynonexistent` and `allnonexistent`.
 const ABSENT: u32 = 0xc083;
 
@@ -65,5 +73,31 @@ fn wait_ends_at_a_hart_that_is_not_there(rt: HostRuntime) -> Result<(), Fail> {
         &[RUNNING, RUNNING, ABSENT, ABSENT, RUNNING, RUNNING, RUNNING],
         Ended::WithErrors,
         "error: no hart 0\nerror: no hart 0\nrunning\n",
+    )
+}
+
+/// The words are read behind the end of the one transfer: behind an error there are none, and no transfer is tried again.
+#[test]
+fn mip_is_asked_for_once(rt: HostRuntime) -> Result<(), Fail> {
+    check_answered(
+        &rt,
+        rt.alloc(),
+        "reg mip\nreg mip\nreg mip 1\n",
+        &[STOPPED, ENDED, 8, 0, STOPPED, REFUSED, STOPPED, ENDED, ENDED, 0, 0],
+        Ended::WithErrors,
+        "mip 0x0000000000000008\nerror: register mip refused\nmip 0x0000000000000000\n",
+    )
+}
+
+/// Of any other register they are read with it, the upper one first.
+#[test]
+fn another_register_is_asked_for_with_its_words(rt: HostRuntime) -> Result<(), Fail> {
+    check_answered(
+        &rt,
+        rt.alloc(),
+        "reg mie\n",
+        &[STOPPED, 0, 8, ENDED],
+        Ended::Clean,
+        "mie 0x0000000000000008\n",
     )
 }

@@ -1,6 +1,6 @@
 use Rattle.std.proofs.Common.{◌∙◌, arith}
 use Rattle.probe_session.proofs.LinkLemmas.{if_err}
-use Rattle.probe_session.proofs.RegisterShow.{all_registers, pc_fell, pc_of_cores, pc_shown, x_fell, x_of_cores, x_shown}
+use Rattle.probe_session.proofs.RegisterShow.{all_registers, pc_fell, pc_of_cores, pc_shown, x_fell, x_not_mip, x_of_cores, x_shown}
 use Rattle.probe_session.proofs.Selections.{stays_then}
 use Rattle.probe_session.proofs.all_registers.put_registers.Goals as goal
 
@@ -22,6 +22,9 @@ showing-init g c = record {
       c.put_register.ensures.keeps.fixed;
   sink_later = c.put_register.ensures.sink_later;
 }
+
+pub put_register-requires-in-showing-clause-other : goal.put_register-requires-in-showing-clause-other
+put_register-requires-in-showing-clause-other g c = x_not_mip c.showing.x
 
 pub put_register-requires-in-showing-clause-of : goal.put_register-requires-in-showing-clause-of
 put_register-requires-in-showing-clause-of g c = x_of_cores c.showing.x c.showing-test.true

@@ -7,7 +7,7 @@ use Rattle.probe_session.proofs.registers.reg.Goals as goal
 pub returns-in_err-value-clause-fell : goal.returns-in_err-value-clause-fell
 returns-in_err-value-clause-fell g c = if_err _ (failure_of_access c.in_err-value.field-0.0) _ c.from_residual.ensures.1 (record {
   why = c.in_err-value.field-0.0;
-  later = c.reg.ensures.keeps.later;
+  later = c.held_reg.ensures.keeps.later;
   at = c.requires.serving.serving;
   heard = c.in_err-value.ensures.failed;
   told = c.in_err-value.ensures.left;
@@ -16,5 +16,5 @@ returns-in_err-value-clause-fell g c = if_err _ (failure_of_access c.in_err-valu
 })
 
 pub returns-in_err-value-clause-keeps : goal.returns-in_err-value-clause-keeps
-returns-in_err-value-clause-keeps g c = goes_err _ _ _ (failure_of_access c.in_err-value.field-0.0) _ c.reg.ensures.keeps.later c.reg.ensures.keeps.fixed
+returns-in_err-value-clause-keeps g c = goes_err _ _ _ (failure_of_access c.in_err-value.field-0.0) _ c.held_reg.ensures.keeps.later c.held_reg.ensures.keeps.fixed
     c.from_residual.ensures.1 (access_left _ c.in_err-value.field-0.0 _ c.in_err-value.ensures.keeps.behind refl)

@@ -8,7 +8,7 @@ pub returns-in_default-clause-fell : goal.returns-in_default-clause-fell
 returns-in_default-clause-fell g c = record {
   fell = record {
     why = c.in-Err.fault;
-    later = c.reg.ensures.keeps.later;
+    later = c.held_reg.ensures.keeps.later;
     at = c.requires.serving.serving;
     heard = c.in-Err.ensures.failed;
     told = c.in-Err.ensures.left;

@@ -24,19 +24,19 @@ returns-in_err-arm_selected-in-Some-clause-failed g c =
     (failed_behind _ _ (Got Tselect c.in_ok-kept.kept ∷ d.transfers) _ _ _ _ _ _ _ _
     (omega (arith, c.reg.ensures.keeps.later, c.seek_free.ensures.keeps.later)) c.arm_selected.ensures.keeps.later
     (sought_behind c.in_ok-kept.kept c.args.halted.now.number _ _ _ (Some c.in-Some.slot) c.in_ok-kept.ensures.made d)
-    (arms_armed c.args.what c.in_ok-kept.kept c.in-Some.slot d.transfers d.whole) c.in_err-arm_selected-in-Some.ensures.failed)
+    (arms_armed c.args.halted.now.version c.args.what c.in_ok-kept.kept c.in-Some.slot d.transfers d.whole) c.in_err-arm_selected-in-Some.ensures.failed)
 
 pub returns-in_err-set_reg-in-Some-clause-failed : goal.returns-in_err-set_reg-in-Some-clause-failed
 returns-in_err-set_reg-in-Some-clause-failed g c =
     let d = rw (c.in-Some.is) at c.in_ok-slot.ensures.did in
-    let tinfo = tinfo_of c.args.what c.args.halted.now.number _ _ c.in_ok-arm_selected-in-Some.ensures.did in
+    let tinfo = tinfo_of c.args.halted.now.version c.args.what c.args.halted.now.number _ _ c.in_ok-arm_selected-in-Some.ensures.did in
     if_err _ c.from_residual-in_err-set_reg-in-Some.result _ c.from_residual-in_err-set_reg-in-Some.ensures.1
-    (failed_behind _ _ (Got Tselect c.in_ok-kept.kept ∷ (d.transfers ++ armed c.args.what tinfo)) _ _ _ _ _ _ _ _
+    (failed_behind _ _ (Got Tselect c.in_ok-kept.kept ∷ (d.transfers ++ armed c.args.halted.now.version c.args.what tinfo)) _ _ _ _ _ _ _ _
     (omega (arith, c.reg.ensures.keeps.later, c.seek_free.ensures.keeps.later, c.arm_selected.ensures.keeps.later)) c.set_reg.ensures.keeps.later
-    (made_then c.args.halted.now.number (Got Tselect c.in_ok-kept.kept ∷ d.transfers) (armed c.args.what tinfo) _ _ _
+    (made_then c.args.halted.now.number (Got Tselect c.in_ok-kept.kept ∷ d.transfers) (armed c.args.halted.now.version c.args.what tinfo) _ _ _
     (sought_behind c.in_ok-kept.kept c.args.halted.now.number _ _ _ (Some c.in-Some.slot) c.in_ok-kept.ensures.made d)
-    (armed_made c.args.what c.args.halted.now.number _ _ c.in_ok-arm_selected-in-Some.ensures.did))
-    (arms_back c.args.what c.in_ok-kept.kept c.in-Some.slot tinfo d.transfers d.whole) c.in_err-set_reg-in-Some.ensures.failed)
+    (armed_made c.args.halted.now.version c.args.what c.args.halted.now.number _ _ c.in_ok-arm_selected-in-Some.ensures.did))
+    (arms_back c.args.halted.now.version c.args.what c.in_ok-kept.kept c.in-Some.slot tinfo d.transfers d.whole) c.in_err-set_reg-in-Some.ensures.failed)
 
 pub returns-in_err-set_reg-in-None-clause-failed : goal.returns-in_err-set_reg-in-None-clause-failed
 returns-in_err-set_reg-in-None-clause-failed g c =
@@ -49,10 +49,10 @@ returns-in_err-set_reg-in-None-clause-failed g c =
 
 pub returns-in_ok-set_reg-in-Some-clause-did : goal.returns-in_ok-set_reg-in-Some-clause-did
 returns-in_ok-set_reg-in-Some-clause-did g c =
-    armed_did c.args.what c.in_ok-kept.kept c.in-Some.slot c.args.halted.now.number _ _ _ _ _ c.in_ok-kept.ensures.made
+    armed_did c.args.halted.now.version c.args.what c.in_ok-kept.kept c.in-Some.slot c.args.halted.now.number _ _ _ _ _ c.in_ok-kept.ensures.made
     (rw (c.in-Some.is) at c.in_ok-slot.ensures.did) c.in_ok-arm_selected-in-Some.ensures.did c.in_ok-set_reg-in-Some.ensures.made
 
 pub returns-in_ok-set_reg-in-None-clause-did : goal.returns-in_ok-set_reg-in-None-clause-did
 returns-in_ok-set_reg-in-None-clause-did g c =
-    none_did c.args.what c.in_ok-kept.kept c.args.halted.now.number _ _ _ _ c.in_ok-kept.ensures.made
+    none_did c.args.halted.now.version c.args.what c.in_ok-kept.kept c.args.halted.now.number _ _ _ _ c.in_ok-kept.ensures.made
     (rw (c.in-None.is) at c.in_ok-slot.ensures.did) c.in_ok-set_reg-in-None.ensures.made
