@@ -152,9 +152,12 @@ then_lively harts s t u d l = record {
 pub along_snoc : (harts : ℕ) (os : List Operation) (o : Operation) (s b m t : Site) → PacedAlong harts s os b → OneOperation o.op o.result b m
     → LivelyDeeds harts m t → PacedAlong harts s (os ++ o ∷ []) t
 along_snoc harts [] o s b m t l one more =
-    let at : Site = ran one.before b in
-    (at, lively_then harts s b at l (record { deeds = one.before; is = refl }), one.result_is,
-     then_lively harts (operated o.op at) m t (record { deeds = one.behind; is = one.is }) more)
+    let at : Site = ran one.before b in (
+      at,
+      lively_then harts s b at l (record { deeds = one.before; is = refl }),
+      one.result_is,
+      then_lively harts (operated o.op at) m t (record { deeds = one.behind; is = one.is }) more,
+    )
 along_snoc harts (p ∷ os) o s b m t along one more =
     (along.0, along.1, along.2, along_snoc harts os o (operated p.op along.0) b m t along.3 one more)
 
@@ -176,7 +179,7 @@ lively_capture between m enough p none = lively_ticks between (capture Dmi m) en
 -- and of a nop to its end
 pub lively_nop : (between behind : ℕ) (m : Inside) → fair_within ≤ between → Paced m → (dtm_of m).flight ≡ None
     → LivelyDeeds (harts_in m) m.works.site
-      (ticks behind (update Dmi (dr_stays (dmi_bits nop) Dmi m) (ticks between (capture Dmi m)))).works.site
+    (ticks behind (update Dmi (dr_stays (dmi_bits nop) Dmi m) (ticks between (capture Dmi m)))).works.site
 lively_nop between behind m enough p none =
     let n = ticks between (capture Dmi m) in
     let left = dr_stays (dmi_bits nop) Dmi m in
