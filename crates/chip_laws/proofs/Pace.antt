@@ -144,7 +144,7 @@ with_begins word.Progbuf3 v hart u = auto_begins u.auto.progbuf3 hart (record u 
 
 write_begins : (late : Bool) (w : CommandWord) (v : ℕ) (hart : Option Hart) (u : CommandUnit)
     → Begins hart u.steps
-      (cond late (accessed_busy u) (cond (is_auto w (with_word w v u).auto) (start hart (with_word w v u)) (with_word w v u))).steps
+    (cond late (accessed_busy u) (cond (is_auto w (with_word w v u).auto) (start hart (with_word w v u)) (with_word w v u))).steps
 write_begins true w v hart u = same_steps refl
 write_begins false w v hart u = with_begins w v hart u
 

@@ -26,6 +26,7 @@ use Rattle.debug_model.specs.Dmi.{
   scanned_coming,
   value_of,
 }
+use Rattle.debug_model.specs.Pacing.{Paced, PacedAlong, harts_in}
 use Rattle.debug_model.specs.Scan.{Coming, ScanCause}
 use Rattle.debug_model.specs.Told.{Far, chip_of, site_of}
 use Rattle.debug_model.specs.TransportWords.{status_failed}
@@ -52,6 +53,7 @@ pub record OperatedAll (ops : List DmiOp) (results : List ℕ) (c : Chip) (new :
   pub results_are : results ≡ map answer_of done
   pub path : Spans done c.inside (chip_of far).inside
   pub site : SitePath c.inside.works.site done (site_of far)
+  pub pace : Paced c.inside → PacedAlong (harts_in c.inside) c.inside.works.site done (site_of far)
 
 -- what may become of the first that was not finished; where all were, nothing more
 abbrev pub NextAtMostOnce : List DmiOp → List Happening → Type 0

@@ -1,14 +1,13 @@
 -- What a fair schedule promises of a chip: nothing waits for long, and around each operation every part of the chip gets on.
 -- RISC-V Debug Specification 1.0 leaves the timing of harts, debug module interface and system bus to the implementation; the number of rounds within which
 -- each has its turn is this project's own choice.
-use Rattle.std.specs.Prelude.{◌≡◌, ◌⊎◌, ℕ, ◌+◌, ◌<◌, ◌≤◌, List, [], length, Contains}
-use Rattle.debug_model.specs.declared.dmi_op.DmiOp.{DmiOp}
+use Rattle.std.specs.Prelude.{◌≡◌, ◌⊎◌, ℕ, ◌+◌, ◌<◌, ◌≤◌, List, [], ◌∷◌, length, Contains}
 use Rattle.debug_model.specs.Chip.{Inside}
 use Rattle.debug_model.specs.Commands.{progbuf_words}
-use Rattle.debug_model.specs.Course.{OneOperation}
-use Rattle.debug_model.specs.Deeds.{Deed}
+use Rattle.debug_model.specs.Course.{Operation}
+use Rattle.debug_model.specs.Deeds.{Deed, ran}
 use Rattle.debug_model.specs.Deeds.Deed.{Turned, CommandStepped, BusStepped}
-use Rattle.debug_model.specs.Module.{Site}
+use Rattle.debug_model.specs.Module.{Site, operated, operation_result}
 use Rattle.debug_model.specs.Schedule.{Fair}
 
 -- in so many rounds in a row each part has its turn
@@ -41,8 +40,13 @@ pub record Lively (harts : ℕ) (deeds : List Deed) : Type 0 where
   pub command : Contains deeds CommandStepped
   pub bus : Contains deeds BusStepped
 
--- one operation with this result, and each part of the chip got on before it and behind it
-pub record PacedOperation (op : DmiOp) (result : ℕ) (s t : Site) : Type 0 where
-  pub one : OneOperation op result s t
-  pub before : Lively (harts_of s) one.before
-  pub behind : Lively (harts_of s) one.behind
+-- such deeds lead from one site to the other
+pub record LivelyDeeds (harts : ℕ) (s t : Site) : Type 0 where
+  pub deeds : List Deed
+  pub lively : Lively harts deeds
+  pub is : t ≡ ran deeds s
+
+-- these operations, with these results, in order: each part of the chip got on before each of them and behind the last
+abbrev pub PacedAlong : ℕ → Site → List Operation → Site → Type 0
+PacedAlong harts s [] t = LivelyDeeds harts s t
+PacedAlong harts s (o ∷ os) t = (m : Site) × LivelyDeeds harts s m × (o.result ≡ operation_result o.op m) × PacedAlong harts (operated o.op m) os t

@@ -72,16 +72,17 @@ failed_is_stuck e = cc
 
 -- ---- what becomes of an operation that is awaited
 
--- by what came out of a scan from j to k whose update came at n: it is in flight still, or came back, or was lost
-pub data Carried (op : DmiOp) (i j n k : Inside) (out : DmiScan) : Type 0 where
-  going_on : out.op ≡ 3 → Waiting op i k → (dtm_of k).sticky ≡ Busy → (counts_in k).dmi_busy ≡ (counts_in j).dmi_busy + 1 → Carried op i j n k out
-  came_back : (result : ℕ) → out.op ≡ 0 → out.value ≡ result % 4294967296 → Settled (Launched op ∷ Performed op result ∷ []) result i n → Carried op i j n k out
-  got_lost : out.op ≡ 2 → Waiting op i k → (counts_in i).dmi_failed < (counts_in k).dmi_failed → Carried op i j n k out
+-- by what came out of a scan from j to k whose capture came at m and its update at n: it is in flight still, or came back, or was lost
+pub data Carried (op : DmiOp) (i j m n k : Inside) (out : DmiScan) : Type 0 where
+  going_on : out.op ≡ 3 → Waiting op i k → (dtm_of k).sticky ≡ Busy → (counts_in k).dmi_busy ≡ (counts_in j).dmi_busy + 1 → Carried op i j m n k out
+  came_back : (result : ℕ) → out.op ≡ 0 → out.value ≡ result % 4294967296 → Settled (Launched op ∷ Performed op result ∷ []) result i m
+      → Settled (Launched op ∷ Performed op result ∷ []) result i n → Carried op i j m n k out
+  got_lost : out.op ≡ 2 → Waiting op i k → (counts_in i).dmi_failed < (counts_in k).dmi_failed → Carried op i j m n k out
 
 carry_by : (op : DmiOp) (bits : List Bool) (before between behind : ℕ) (i j : Inside) (out : DmiScan) → Waiting op i j → (dtm_of j).sticky ≡ Clear
     → out ≡ cut_scan (dmi_seen (dtm_of (ticks before j)))
     → (hs : List Happening) → Course i hs (ticks before j) → Phase op hs (dtm_of (ticks before j))
-    → Carried op i j (to_update before between j) (dr_inside before between behind bits Dmi j) out
+    → Carried op i j (ticks before j) (to_update before between j) (dr_inside before between behind bits Dmi j) out
 carry_by op bits before between behind i j out w clear is hs path (flying h f) =
     let m = ticks before j in
     let still = ticks_sticky before j ∙ clear in
@@ -97,7 +98,7 @@ carry_by op bits before between behind i j out w clear is hs path (landed result
     let hs' = Launched op ∷ Performed op result ∷ [] in
     let s : Settled hs' result i m = record { path = subst (λ xs. Course i xs m) h path; flight = f; failed = k; clear = still; value_is = v } in
     came_back result (op_seen (dtm_of m) out Clear is done) (ap (λ (x : DmiScan). x.value) is ∙ ap (λ n. n % 4294967296) v)
-    (settle_ticks between hs' result i (capture Dmi m) (settle_capture Dmi hs' result i m s))
+    s (settle_ticks between hs' result i (capture Dmi m) (settle_capture Dmi hs' result i m s))
 carry_by op bits before between behind i j out w clear is hs path (missed h f k) =
     let m = ticks before j in
     let still = ticks_sticky before j ∙ clear in
@@ -108,7 +109,7 @@ carry_by op bits before between behind i j out w clear is hs path (missed h f k)
 
 pub carry : (op : DmiOp) (bits : List Bool) (before between behind : ℕ) (i j : Inside) (out : DmiScan) → Waiting op i j → (dtm_of j).sticky ≡ Clear
     → out ≡ cut_scan (dmi_seen (dtm_of (ticks before j)))
-    → Carried op i j (to_update before between j) (dr_inside before between behind bits Dmi j) out
+    → Carried op i j (ticks before j) (to_update before between j) (dr_inside before between behind bits Dmi j) out
 carry op bits before between behind i j out w clear is =
     let at = wait_ticks before op i j w in
     carry_by op bits before between behind i j out w clear is at.happened at.path at.phase

@@ -7,6 +7,7 @@ pub mod Counts
 pub mod Courses
 pub mod Flight
 pub mod Heard
+pub mod Lively
 pub mod ManyHeard
 pub mod Pacing
 pub mod Places

@@ -108,10 +108,10 @@ back_part ops i base j done op (next ∷ left) before between behind result smal
 
 carried_part : (ops : List DmiOp) (i base j : Inside) (done : List Operation) (op : DmiOp) (left : List DmiOp) (before between behind : ℕ) (out : DmiScan)
     → All IsOperation left → map op_of done ++ op ∷ left ≡ ops → Course i (each_once done) base
-    → Carried op base j (to_update before between j) (dr_inside before between behind (dmi_bits (first_scan left)) Dmi j) out
+    → Carried op base j (ticks before j) (to_update before between j) (dr_inside before between behind (dmi_bits (first_scan left)) Dmi j) out
     → ReachedAll ops i (dr_inside before between behind (dmi_bits (first_scan left)) Dmi j)
 carried_part ops i base j done op left before between behind out small asked c (going_on o w s b) = reached_one ops i base _ done op left asked c w
-carried_part ops i base j done op left before between behind out small asked c (came_back result o v s) =
+carried_part ops i base j done op left before between behind out small asked c (came_back result o v a s) =
     back_part ops i base j done op left before between behind result small asked c s
 carried_part ops i base j done op left before between behind out small asked c (got_lost o w l) = reached_one ops i base _ done op left asked c w
 

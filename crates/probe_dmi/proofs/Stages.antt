@@ -71,7 +71,7 @@ reset_harmless = record { left = dtmcs_left; keeps = reset_keeps }
 pub idcode_harmless : Harmless Idcode idcode_bits
 idcode_harmless = record { left = idcode_left; keeps = λ d clear. idcode_keeps d }
 
-settle_captured : (r : DataRegister) (before between : ℕ) (hs : List Happening) (v : ℕ) (i j : Inside) → Settled hs v i j
+pub settle_captured : (r : DataRegister) (before between : ℕ) (hs : List Happening) (v : ℕ) (i j : Inside) → Settled hs v i j
     → Settled hs v i (ticks between (capture r (ticks before j)))
 settle_captured r before between hs v i j s =
     settle_ticks between hs v i (capture r (ticks before j)) (settle_capture r hs v i (ticks before j) (settle_ticks before hs v i j s))

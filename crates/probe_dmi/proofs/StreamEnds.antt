@@ -13,7 +13,7 @@ use Rattle.debug_model.specs.Course.{SitePath, each_once}
 use Rattle.debug_model.specs.Course.Happening.{Launched, Performed}
 use Rattle.debug_model.specs.Dmi.{FoundBusy, IsOperation, LostOne}
 use Rattle.debug_model.specs.Many.{OperatedAll, OperationsCut, op_of}
-use Rattle.debug_model.specs.Scan.{WhereTold, dr_inside, dtm_of}
+use Rattle.debug_model.specs.Scan.{WhereTold, dr_inside, dtm_of, ticks}
 use Rattle.debug_model.specs.Told.{Far, IsClean, chip_of, site_of}
 use Rattle.probe_dmi.specs.Operations.{kept}
 use Rattle.debug_model.specs.Asked.{first_scan, nop, reset_bits}
@@ -29,7 +29,11 @@ use Rattle.debug_model.specs.Kept.{ScanSeen}
 use Rattle.probe_dmi.proofs.Spending.{SpentWithin}
 use Rattle.probe_dmi.proofs.StreamSpending.{clocks_spent, scans_spent}
 use Rattle.probe_dmi.proofs.Stages.{Sent, ready_op, reset_count, reset_part, reset_wait}
-use Rattle.probe_dmi.proofs.Streams.{StillStreaming, Streaming, carried_at, cut_of, more_results, still_then, stream_on, stream_then}
+use Rattle.debug_model.specs.Pacing.{PacedAlong, harts_in}
+use Rattle.debug_model.specs.TransportWords.{dmi_word}
+use Rattle.jt_base.specs.BitLaws.{length-bits_of}
+use Rattle.probe_dmi.proofs.Lively.{along_snoc, nop_ends, one_path}
+use Rattle.probe_dmi.proofs.Streams.{StillStreaming, Streaming, streaming_along, carried_at, cut_of, more_results, still_then, stream_on, stream_then}
 use Rattle.probe_dmi.proofs.Told.{at_passed, clean_at, false_is_true, heard_is, other_op}
 
 -- ---- the last result
@@ -41,12 +45,13 @@ pub record FetchedAllAt (ops : List DmiOp) (results : List ℕ) (c : Chip) (new 
 last_by : (ops : List DmiOp) (results results' : List ℕ) (op : DmiOp) (flight : Bool) (busy : ℕ) (out : DmiScan) (f : Far) (mid new : Option Far)
     (u : Streaming ops results [] flight busy (chip_of f) mid)
     → out.op ≡ 0 → results' ≡ kept flight out.value results → flight ≡ true → map op_of u.done ++ op ∷ [] ≡ ops → (d : DmiScanned nop out (chip_of u.far) new)
-    → Carried op u.base (chip_of u.far).inside (to_update d.scanned.before d.scanned.between (chip_of u.far).inside)
+    → Carried op u.base (chip_of u.far).inside (ticks d.scanned.before (chip_of u.far).inside)
+    (to_update d.scanned.before d.scanned.between (chip_of u.far).inside)
     (dr_inside d.scanned.before d.scanned.between d.scanned.behind (dmi_bits nop) Dmi (chip_of u.far).inside) out
     → FetchedAllAt ops results' (chip_of f) new
 last_by ops results results' op flight busy out f mid new u done kept_is one asked d (going_on o w s b) = other_op out.op 0 3 done o (omega arith)
 last_by ops results results' op flight busy out f mid new u done kept_is one asked d (got_lost o w l) = other_op out.op 0 2 done o (omega arith)
-last_by ops results results' op flight busy out f mid new u done kept_is one asked d (came_back result o v s) =
+last_by ops results results' op flight busy out f mid new u done kept_is one asked d (came_back result o v a s) =
     let x = d.scanned in
     let j = (chip_of u.far).inside in
     let hs = Launched op ∷ Performed op result ∷ [] in
@@ -65,6 +70,12 @@ last_by ops results results' op flight busy out f mid new u done kept_is one ask
         path = path;
         site = subst (λ os. SitePath (site_of f) os (site_of x.far)) (performed-all more)
             (site_path (chip_of f).inside (chip_of x.far).inside (each_once more) path);
+        pace = λ paced. at_passed (λ (n : Inside). PacedAlong (harts_in (chip_of f).inside) (site_of f) more n.works.site) x.far k x.passed
+            (along_snoc (harts_in (chip_of f).inside) u.done (with_result op result) (site_of f) u.base.works.site (ticks x.before j).works.site _
+            (streaming_along ops results [] flight busy (chip_of f) mid u one paced)
+            (one_path u.base (ticks x.before j) op result a.path)
+            (nop_ends (chip_of f).inside u.base (ticks x.before j) u.done op result x.between x.behind paced u.so_far a
+            (omega (arith, x.shifts, length-bits_of 41 (dmi_word nop)))));
       };
       clean = clean_at new x.far x.is (record { none_in_flight = t.flight; clear = t.clear; not_failed = t.failed });
     }
@@ -116,11 +127,12 @@ pub record FailedAllAt (ops : List DmiOp) (c : Chip) (new : Option Far) : Type 0
 failed_by : (ops : List DmiOp) (results : List ℕ) (left : List DmiOp) (op : DmiOp) (flight : Bool) (busy : ℕ) (out : DmiScan) (f : Far) (mid new : Option Far)
     (u : Streaming ops results left flight busy (chip_of f) mid)
     → out.op ≡ 2 → map op_of u.done ++ op ∷ left ≡ ops → (d : DmiScanned (first_scan left) out (chip_of u.far) new)
-    → Carried op u.base (chip_of u.far).inside (to_update d.scanned.before d.scanned.between (chip_of u.far).inside)
+    → Carried op u.base (chip_of u.far).inside (ticks d.scanned.before (chip_of u.far).inside)
+    (to_update d.scanned.before d.scanned.between (chip_of u.far).inside)
     (dr_inside d.scanned.before d.scanned.between d.scanned.behind (dmi_bits (first_scan left)) Dmi (chip_of u.far).inside) out
     → FailedAllAt ops (chip_of f) new
 failed_by ops results left op flight busy out f mid new u gone asked d (going_on o w s b) = other_op out.op 2 3 gone o (omega arith)
-failed_by ops results left op flight busy out f mid new u gone asked d (came_back result o v s) = other_op out.op 2 0 gone o (omega arith)
+failed_by ops results left op flight busy out f mid new u gone asked d (came_back result o v a s) = other_op out.op 2 0 gone o (omega arith)
 failed_by ops results left op flight busy out f mid new u gone asked d (got_lost o w l) =
     let x = d.scanned in
     let i = (chip_of f).inside in
@@ -170,10 +182,11 @@ all_failed_lost ops (Some f) new d = d.lost
 again_by : (ops : List DmiOp) (results : List ℕ) (left : List DmiOp) (op : DmiOp) (flight : Bool) (busy : ℕ) (out : DmiScan) (f : Far) (mid new : Option Far)
     (u : Streaming ops results left flight busy (chip_of f) mid)
     → out.op ≢ 0 → out.op ≢ 2 → flight ≡ true → map op_of u.done ++ op ∷ left ≡ ops → (d : DmiScanned (first_scan left) out (chip_of u.far) new)
-    → Carried op u.base (chip_of u.far).inside (to_update d.scanned.before d.scanned.between (chip_of u.far).inside)
+    → Carried op u.base (chip_of u.far).inside (ticks d.scanned.before (chip_of u.far).inside)
+    (to_update d.scanned.before d.scanned.between (chip_of u.far).inside)
     (dr_inside d.scanned.before d.scanned.between d.scanned.behind (dmi_bits (first_scan left)) Dmi (chip_of u.far).inside) out
     → StillStreaming ops results left flight busy (chip_of f) new
-again_by ops results left op flight busy out f mid new u undone unfailed one asked d (came_back result o v s) = absurd (undone o)
+again_by ops results left op flight busy out f mid new u undone unfailed one asked d (came_back result o v a s) = absurd (undone o)
 again_by ops results left op flight busy out f mid new u undone unfailed one asked d (got_lost o w l) = absurd (unfailed o)
 again_by ops results left op flight busy out f mid new u undone unfailed one asked d (going_on o w s b) =
     let x = d.scanned in
@@ -185,6 +198,7 @@ again_by ops results left op flight busy out f mid new u undone unfailed one ask
       results_are = u.results_are;
       base = u.base;
       so_far = u.so_far;
+      pace = u.pace;
       in_flight = one;
       op = op;
       asked = asked;
@@ -231,6 +245,7 @@ stream_cleared ops results left flight busy value old mid new u d =
           results_are = u.results_are;
           base = u.base;
           so_far = u.so_far;
+          pace = u.pace;
           place = at_passed (λ (m : Inside). Place ops u.done left flight u.base m) x.far k x.passed (one_awaited u.in_flight u.op u.asked l.waiting);
           clear = at_passed (λ (m : Inside). (dtm_of m).sticky ≡ Clear) x.far k x.passed l.clear;
           found = at_passed (λ (m : Inside). (counts_in (chip_of f).inside).dmi_busy + (busy + 1) ≤ (counts_in m).dmi_busy) x.far k x.passed

@@ -1,5 +1,5 @@
 -- Several operations on a told chip, call by call: where their loop stands, and what each way out of it leaves.
-use Rattle.std.proofs.Common.{◌≡◌, ◌∙◌, ◌+◌, ◌≤◌, ℕ, List, [], ◌∷◌, ◌++◌, ◌%◌, map, Bool, true, false, Option, Some, None, IfSome, refl, sym, ap, subst, arith}
+use Rattle.std.proofs.Common.{◌≡◌, ◌∙◌, ◌+◌, ◌≤◌, ℕ, List, [], ◌∷◌, ◌++◌, ◌%◌, map, Bool, true, false, Option, Some, None, IfSome, refl, sym, ap, subst, arith, append-nil}
 use Rattle.std.proofs.lemmas.List.{map-append}
 use Rattle.chip_laws.proofs.PathLemmas.{site_path}
 use Rattle.debug_model.specs.declared.data_register.DataRegister.TheVariants.{Dmi}
@@ -20,14 +20,24 @@ use Rattle.probe_dmi.specs.Registers.{DmiScanned, Prepared, Waited, dmi_bits}
 use Rattle.probe_dmi.proofs.Carrying.{Carried, carry, launch_here, scan_busy, settled_here, to_update}
 use Rattle.probe_dmi.proofs.Carrying.Carried.{going_on, came_back, got_lost}
 use Rattle.probe_dmi.proofs.Counts.{counts_in, ticks_busy}
-use Rattle.probe_dmi.proofs.Courses.{one_more, one_more_asked, performed-each, with_result}
+use Rattle.probe_dmi.proofs.Courses.{course_append, one_more, one_more_asked, performed-each, with_result}
+use Rattle.debug_model.specs.Pacing.{Paced, PacedAlong, harts_in}
+use Rattle.debug_model.specs.Module.{Site}
+use Rattle.debug_model.specs.TransportWords.{dmi_word}
+use Rattle.jt_base.specs.BitLaws.{length-bits_of}
+use Rattle.probe_dmi.proofs.Lively.{first_along, next_along}
 use Rattle.probe_dmi.proofs.Flight.{Settled, Waiting, settle_ticks, ticks_sticky}
 use Rattle.probe_dmi.proofs.Places.{Place, ReachedAll, reached_none}
 use Rattle.probe_dmi.proofs.Places.Place.{none_awaited, one_awaited}
-use Rattle.probe_dmi.proofs.Stages.{Sent, launch_scan}
+use Rattle.probe_dmi.proofs.Stages.{Sent, settle_captured}
 use Rattle.probe_dmi.proofs.Told.{at_passed, heard_is, other_op, settled_first}
 
 -- ---- where the loop stands
+
+-- with nothing in flight none was done; else each part of the chip got on before each operation, and before the base where the next was launched
+abbrev pub PacedSoFar : ℕ → Site → List Operation → Bool → Site → Type 0
+PacedSoFar harts s done false t = done ≡ []
+PacedSoFar harts s done true t = PacedAlong harts s done t
 
 pub record Streaming (ops : List DmiOp) (results : List ℕ) (left : List DmiOp) (flight : Bool) (busy : ℕ) (c : Chip) (new : Option Far) : Type 0 where
   pub far : Far
@@ -36,6 +46,7 @@ pub record Streaming (ops : List DmiOp) (results : List ℕ) (left : List DmiOp)
   pub results_are : results ≡ map answer_of done
   pub base : Inside
   pub so_far : Course c.inside (each_once done) base
+  pub pace : Paced c.inside → PacedSoFar (harts_in c.inside) c.inside.works.site done flight base.works.site
   pub place : Place ops done left flight base (chip_of far).inside
   pub clear : (dtm_of (chip_of far).inside).sticky ≡ Clear
   pub found : (counts_in c.inside).dmi_busy + busy ≤ (counts_in (chip_of far).inside).dmi_busy
@@ -48,12 +59,20 @@ pub record StillStreaming (ops : List DmiOp) (results : List ℕ) (left : List D
   pub results_are : results ≡ map answer_of done
   pub base : Inside
   pub so_far : Course c.inside (each_once done) base
+  pub pace : Paced c.inside → PacedSoFar (harts_in c.inside) c.inside.works.site done flight base.works.site
   pub in_flight : flight ≡ true
   pub op : DmiOp
   pub asked : map op_of done ++ op ∷ left ≡ ops
   pub waiting : Waiting op base (chip_of far).inside
   pub busy_still : (dtm_of (chip_of far).inside).sticky ≡ Busy
   pub found : (counts_in c.inside).dmi_busy + (busy + 1) ≤ (counts_in (chip_of far).inside).dmi_busy
+
+-- of one that is awaited
+pub streaming_along : (ops : List DmiOp) (results : List ℕ) (left : List DmiOp) (flight : Bool) (busy : ℕ) (c : Chip) (new : Option Far)
+    (u : Streaming ops results left flight busy c new) → flight ≡ true → Paced c.inside
+    → PacedAlong (harts_in c.inside) c.inside.works.site u.done u.base.works.site
+streaming_along ops results left flight busy c new u one paced =
+    subst (λ b. PacedSoFar (harts_in c.inside) c.inside.works.site u.done b u.base.works.site) one (u.pace paced)
 
 -- the next call, from where the loop stands
 pub stream_then : (Q T : Chip → Option Far → Type 0) (ops : List DmiOp) (results : List ℕ) (left : List DmiOp) (flight : Bool) (busy : ℕ)
@@ -118,6 +137,7 @@ begun_at ops results f new none clean p =
       results_are = none;
       base = i;
       so_far = nothing;
+      pace = λ paced. refl;
       place = at_passed (λ (n : Inside). Place ops [] ops false i n) p.far k p.passed
           (none_awaited refl refl v (settle_ticks p.rounds [] v i i (settled_first (chip_of f) clean)));
       clear = at_passed (λ (n : Inside). (dtm_of n).sticky ≡ Clear) p.far k p.passed (ticks_sticky p.rounds i ∙ clean.clear);
@@ -134,7 +154,7 @@ stream_begun ops results (Some f) new none clean p = begun_at ops results f new 
 -- the outcome, where an operation is awaited
 pub carried_at : (word : DmiScan) (op : DmiOp) (base : Inside) (out : DmiScan) (c : Chip) (new : Option Far) → Waiting op base c.inside
     → (dtm_of c.inside).sticky ≡ Clear → (d : DmiScanned word out c new)
-    → Carried op base c.inside (to_update d.scanned.before d.scanned.between c.inside)
+    → Carried op base c.inside (ticks d.scanned.before c.inside) (to_update d.scanned.before d.scanned.between c.inside)
     (dr_inside d.scanned.before d.scanned.between d.scanned.behind (dmi_bits word) Dmi c.inside) out
 carried_at word op base out c new w clear d =
     let x = d.scanned in
@@ -150,16 +170,22 @@ taken_first ops results results' next left flight busy v out f mid new u small k
     let x = d.scanned in
     let j = (chip_of u.far).inside in
     let k = dr_inside x.before x.between x.behind (dmi_bits (carrying next)) Dmi j in
-    let l : Sent next u.base k = launch_scan next x.before x.between x.behind v u.base j small s in
+    let n = to_update x.before x.between j in
+    let t : Settled [] v u.base n = settle_captured Dmi x.before x.between [] v u.base j s in
+    let l : Sent next n k = launch_here next x.before x.between x.behind v j small (settled_here [] v u.base n t) in
     record {
       far = x.far;
       is = x.is;
       done = u.done;
       results_are = kept_is ∙ ap (λ b. kept b out.value results) none ∙ u.results_are;
-      base = u.base;
-      so_far = u.so_far;
-      place = at_passed (λ (n : Inside). Place ops u.done left true u.base n) x.far k x.passed (one_awaited refl next asked l.waiting);
-      clear = at_passed (λ (n : Inside). (dtm_of n).sticky ≡ Clear) x.far k x.passed l.clear;
+      base = n;
+      so_far = subst (λ hs. Course (chip_of f).inside hs n) (append-nil (each_once u.done))
+          (course_append (chip_of f).inside u.base n (each_once u.done) [] u.so_far t.path);
+      pace = λ paced. first_along (chip_of f).inside u.base u.done v x.before x.between j
+          (subst (λ b. PacedSoFar (harts_in (chip_of f).inside) (site_of f) u.done b u.base.works.site) none (u.pace paced)) u.so_far s
+          (omega (arith, x.shifts, length-bits_of 41 (dmi_word (carrying next)))) paced;
+      place = at_passed (λ (m : Inside). Place ops u.done left true n m) x.far k x.passed (one_awaited refl next asked l.waiting);
+      clear = at_passed (λ (m : Inside). (dtm_of m).sticky ≡ Clear) x.far k x.passed l.clear;
       found = at_passed (λ (n : Inside). (counts_in (chip_of f).inside).dmi_busy + 0 ≤ (counts_in n).dmi_busy) x.far k x.passed
           (omega (arith, u.found, scan_busy x.before x.between x.behind (dmi_bits (carrying next)) j));
     }
@@ -177,14 +203,15 @@ taken_next : (ops : List DmiOp) (results results' : List ℕ) (op next : DmiOp) 
     (mid new : Option Far) (u : Streaming ops results (next ∷ left) flight busy (chip_of f) mid)
     → IsOperation next → out.op ≡ 0 → results' ≡ kept flight out.value results → flight ≡ true → map op_of u.done ++ op ∷ next ∷ left ≡ ops
     → (d : DmiScanned (carrying next) out (chip_of u.far) new)
-    → Carried op u.base (chip_of u.far).inside (to_update d.scanned.before d.scanned.between (chip_of u.far).inside)
+    → Carried op u.base (chip_of u.far).inside (ticks d.scanned.before (chip_of u.far).inside)
+    (to_update d.scanned.before d.scanned.between (chip_of u.far).inside)
     (dr_inside d.scanned.before d.scanned.between d.scanned.behind (dmi_bits (carrying next)) Dmi (chip_of u.far).inside) out
     → Streaming ops results' left true 0 (chip_of f) new
 taken_next ops results results' op next left flight busy out f mid new u small done kept_is one asked d (going_on o w s b) =
     other_op out.op 0 3 done o (omega arith)
 taken_next ops results results' op next left flight busy out f mid new u small done kept_is one asked d (got_lost o w l) =
     other_op out.op 0 2 done o (omega arith)
-taken_next ops results results' op next left flight busy out f mid new u small done kept_is one asked d (came_back result o v s) =
+taken_next ops results results' op next left flight busy out f mid new u small done kept_is one asked d (came_back result o v a s) =
     let x = d.scanned in
     let j = (chip_of u.far).inside in
     let n = to_update x.before x.between j in
@@ -199,6 +226,8 @@ taken_next ops results results' op next left flight busy out f mid new u small d
       results_are = more_results flight out.value results results' u.done op result kept_is one v u.results_are;
       base = n;
       so_far = one_more (chip_of f).inside u.base n u.done op result u.so_far s.path;
+      pace = λ paced. next_along (chip_of f).inside u.base u.done op result x.before x.between j (streaming_along ops results (next ∷ left) flight busy (chip_of f) mid u one paced)
+          u.so_far a (omega (arith, x.shifts, length-bits_of 41 (dmi_word (carrying next)))) paced;
       place = at_passed (λ (m : Inside). Place ops more left true n m) x.far k x.passed
           (one_awaited refl next (one_more_asked u.done op result (next ∷ left) ops asked) l.waiting);
       clear = at_passed (λ (m : Inside). (dtm_of m).sticky ≡ Clear) x.far k x.passed l.clear;

@@ -20,11 +20,19 @@ use Rattle.debug_model.specs.Asked.{carrying, next_scan, nop, reset_bits}
 use Rattle.probe_dmi.specs.Registers.{CutFrom, DmiScanned, Prepared, Waited, WordScanned, dmi_bits}
 use Rattle.probe_dmi.proofs.Counts.{counts_in, ticks_busy}
 use Rattle.probe_dmi.proofs.Flight.{Settled, Waiting, settle_ticks, ticks_sticky}
+use Rattle.debug_model.specs.Pacing.{Paced, PacedAlong, harts_in}
+use Rattle.debug_model.specs.TransportWords.{dmi_word}
+use Rattle.jt_base.specs.BitLaws.{length-bits_of}
+use Rattle.probe_dmi.proofs.Lively.{Lead, LedOut, lead_begun, lead_on, led_out}
+use Rattle.probe_dmi.proofs.Stages.{nop_sparing, wait_scan}
 use Rattle.probe_dmi.proofs.Stages.{Outcome, Reached, Sent, Stage, await, launch_busy, launch_part, launch_scan, nop_part, ready_op, reset_count}
 use Rattle.probe_dmi.proofs.Stages.{reset_part, reset_wait, settle_reached, stage_reached, wait_reached}
 use Rattle.probe_dmi.proofs.Stages.Outcome.{went_on, was_done, was_lost}
 use Rattle.probe_dmi.proofs.Stages.Stage.{ready, sent}
 use Rattle.probe_dmi.proofs.WholeScans.{cut_scan, heard_of}
+
+pub false_is_true : {P : Type 0} → false ≡ true → P
+false_is_true e = absurd (let no : ⊥ = cc in no)
 
 -- ---- where the loop stands
 
@@ -34,6 +42,7 @@ pub record Underway (op : DmiOp) (taken : Bool) (busy : ℕ) (c : Chip) (new : O
   pub stage : Stage op taken c.inside (chip_of far).inside
   pub clear : (dtm_of (chip_of far).inside).sticky ≡ Clear
   pub found : (counts_in (chip_of far).inside).dmi_busy ≡ (counts_in c.inside).dmi_busy + busy
+  pub lead : taken ≡ true → Paced c.inside → Lead op c.inside (chip_of far).inside
 
 -- one more scan found it busy, and its status is not cleared yet
 pub record FoundAgain (op : DmiOp) (taken : Bool) (busy : ℕ) (c : Chip) (new : Option Far) : Type 0 where
@@ -43,6 +52,7 @@ pub record FoundAgain (op : DmiOp) (taken : Bool) (busy : ℕ) (c : Chip) (new :
   pub waiting : Waiting op c.inside (chip_of far).inside
   pub busy_still : (dtm_of (chip_of far).inside).sticky ≡ Busy
   pub found : (counts_in (chip_of far).inside).dmi_busy ≡ (counts_in c.inside).dmi_busy + (busy + 1)
+  pub lead : Paced c.inside → Lead op c.inside (chip_of far).inside
 
 -- the next call, from where the loop stands
 under_then : (Q T : Chip → Option Far → Type 0) (op : DmiOp) (taken : Bool) (busy : ℕ) (old mid new : Option Far)
@@ -83,6 +93,7 @@ begun_at op f new clean p =
       stage = at_passed (λ (n : Inside). Stage op false i n) p.far k p.passed (ready refl v (settle_ticks p.rounds [] v i i (settled_first (chip_of f) clean)));
       clear = at_passed (λ (n : Inside). (dtm_of n).sticky ≡ Clear) p.far k p.passed (ticks_sticky p.rounds i ∙ clean.clear);
       found = at_passed (λ (n : Inside). (counts_in n).dmi_busy ≡ (counts_in i).dmi_busy + 0) p.far k p.passed (omega (arith, ticks_busy p.rounds i));
+      lead = λ t paced. false_is_true t;
     }
 
 pub begun : (op : DmiOp) (old new : Option Far) → IsClean old → WhereTold (Prepared Dmi) old new → WhereTold (Underway op false 0) old new
@@ -112,10 +123,9 @@ carried_step op busy out f c new small v s found d =
       clear = at_passed (λ (n : Inside). (dtm_of n).sticky ≡ Clear) x.far k x.passed l.clear;
       found = at_passed (λ (n : Inside). (counts_in n).dmi_busy ≡ (counts_in i).dmi_busy + busy) x.far k x.passed
           (launch_busy op x.before x.between x.behind v i j s ∙ found);
+      lead = λ t paced. at_passed (λ (n : Inside). Lead op i n) x.far k x.passed
+          (lead_begun op x.before x.between x.behind v i j small s (omega (arith, x.shifts, length-bits_of 41 (dmi_word (carrying op)))) paced);
     }
-
-pub false_is_true : {P : Type 0} → false ≡ true → P
-false_is_true e = absurd (let no : ⊥ = cc in no)
 
 pub other_op : {P : Type 0} (n a b : ℕ) → n ≡ a → n ≡ b → a ≢ b → P
 other_op n a b e f differ = absurd (differ (sym e ∙ f))
@@ -145,6 +155,15 @@ outcome op out f c new w clear d =
     at_passed (λ (n : Inside). Outcome op (chip_of f).inside c.inside n out) x.far (dr_inside x.before x.between x.behind (dmi_bits nop) Dmi c.inside) x.passed
     (await op x.before x.between x.behind (chip_of f).inside c.inside out w clear (heard_is nop out c new d))
 
+-- and each part of the chip got on around it
+led_told : (op : DmiOp) (out : DmiScan) (f : Far) (c : Chip) (new : Option Far) → Lead op (chip_of f).inside c.inside → (dtm_of c.inside).sticky ≡ Clear
+    → (d : DmiScanned nop out c new) → out.op ≡ 0 → Paced (chip_of f).inside → LedOut op (chip_of f).inside (chip_of d.scanned.far).inside
+led_told op out f c new l clear d done paced =
+    let x = d.scanned in
+    at_passed (λ (n : Inside). LedOut op (chip_of f).inside n) x.far (dr_inside x.before x.between x.behind (dmi_bits nop) Dmi c.inside) x.passed
+    (led_out op x.before x.between x.behind (chip_of f).inside c.inside out l clear (heard_is nop out c new d) done
+    (omega (arith, x.shifts, length-bits_of 41 (dmi_word nop))) paced)
+
 -- its own result
 pub record FetchedAt (op : DmiOp) (value : ℕ) (c : Chip) (new : Option Far) : Type 0 where
   pub operated : Operated op value c new
@@ -154,10 +173,10 @@ pub clean_at : (new : Option Far) (far : Far) → new ≡ Some far → DtmClean 
 clean_at new far is clean = subst IsClean (sym is) clean
 
 fetched_step : (op : DmiOp) (out : DmiScan) (f : Far) (new : Option Far) (far : Far) (j : Inside) → new ≡ Some far → out.op ≡ 0
-    → Outcome op (chip_of f).inside j (chip_of far).inside out → FetchedAt op out.value (chip_of f) new
-fetched_step op out f new far j is done (went_on o w s b) = other_op out.op 0 3 done o (omega arith)
-fetched_step op out f new far j is done (was_lost o w l) = other_op out.op 0 2 done o (omega arith)
-fetched_step op out f new far j is done (was_done result o v s) = record {
+    → (Paced (chip_of f).inside → LedOut op (chip_of f).inside (chip_of far).inside) → Outcome op (chip_of f).inside j (chip_of far).inside out → FetchedAt op out.value (chip_of f) new
+fetched_step op out f new far j is done led (went_on o w s b) = other_op out.op 0 3 done o (omega arith)
+fetched_step op out f new far j is done led (was_lost o w l) = other_op out.op 0 2 done o (omega arith)
+fetched_step op out f new far j is done led (was_done result o v s) = record {
   operated = record {
     far = far;
     is = is;
@@ -166,6 +185,10 @@ fetched_step op out f new far j is done (was_done result o v s) = record {
     site = one_operation_between_deeds (site_of f) (site_of far) (record { op = op; result = result })
         (site_path (chip_of f).inside (chip_of far).inside (Launched op ∷ Performed op result ∷ []) s.path);
     value_is = v;
+    pace = λ paced.
+        let l : LedOut op (chip_of f).inside (chip_of far).inside = led paced in
+        subst (λ n. PacedAlong (harts_in (chip_of f).inside) (site_of f) (record { op = op; result = n } ∷ []) (site_of far)) (sym l.value ∙ s.value_is)
+        l.along;
   };
   clean = clean_at new far is (record { none_in_flight = s.flight; clear = s.clear; not_failed = s.failed });
 }
@@ -178,7 +201,8 @@ fetched op busy out old mid new done u d = under_then (DmiScanned nop out) (Fetc
     by : (f : Far) (u : Underway op true busy (chip_of f) mid) → Stage op true (chip_of f).inside (chip_of u.far).inside
         → DmiScanned nop out (chip_of u.far) new → FetchedAt op out.value (chip_of f) new
     by f u (ready e v s) d = false_is_true (sym e)
-    by f u (sent e w) d = fetched_step op out f new d.scanned.far (chip_of u.far).inside d.scanned.is done (outcome op out f (chip_of u.far) new w u.clear d)
+    by f u (sent e w) d = fetched_step op out f new d.scanned.far (chip_of u.far).inside d.scanned.is done
+        (λ paced. led_told op out f (chip_of u.far) new (u.lead refl paced) u.clear d done paced) (outcome op out f (chip_of u.far) new w u.clear d)
 
     step : (f : Far) (u : Underway op true busy (chip_of f) mid) → DmiScanned nop out (chip_of u.far) new → FetchedAt op out.value (chip_of f) new
     step f u d = by f u u.stage d
@@ -283,25 +307,36 @@ failed_lost op (Some f) new d = d.lost
 
 -- ---- op 3
 
+lead_again : (op : DmiOp) (out : DmiScan) (f : Far) (c : Chip) (new : Option Far) → Lead op (chip_of f).inside c.inside → (d : DmiScanned nop out c new)
+    → Lead op (chip_of f).inside (chip_of d.scanned.far).inside
+lead_again op out f c new l d =
+    let x = d.scanned in
+    let k = dr_inside x.before x.between x.behind (dmi_bits nop) Dmi c.inside in
+    at_passed (λ (n : Inside). Lead op (chip_of f).inside n) x.far k x.passed
+    (lead_on op (chip_of f).inside c.inside k (λ a w. wait_scan Dmi (dmi_bits nop) op a c.inside (nop_sparing c.inside) w x.before x.between x.behind) l)
+
 again_step : (op : DmiOp) (taken : Bool) (busy : ℕ) (out : DmiScan) (f : Far) (new : Option Far) (far : Far) (j : Inside) → new ≡ Some far → taken ≡ true
     → out.op ≢ 0 → out.op ≢ 2
-    → (counts_in j).dmi_busy ≡ (counts_in (chip_of f).inside).dmi_busy + busy → Outcome op (chip_of f).inside j (chip_of far).inside out
+    → (counts_in j).dmi_busy ≡ (counts_in (chip_of f).inside).dmi_busy + busy
+    → (Paced (chip_of f).inside → Lead op (chip_of f).inside (chip_of far).inside) → Outcome op (chip_of f).inside j (chip_of far).inside out
     → FoundAgain op taken busy (chip_of f) new
-again_step op taken busy out f new far j is t undone unfailed found (was_done result o v s) = absurd (undone o)
-again_step op taken busy out f new far j is t undone unfailed found (was_lost o w l) = absurd (unfailed o)
-again_step op taken busy out f new far j is t undone unfailed found (went_on o w s b) =
-    record { far = far; is = is; was_taken = t; waiting = w; busy_still = s; found = omega (arith, b, found) }
+again_step op taken busy out f new far j is t undone unfailed found lead (was_done result o v s) = absurd (undone o)
+again_step op taken busy out f new far j is t undone unfailed found lead (was_lost o w l) = absurd (unfailed o)
+again_step op taken busy out f new far j is t undone unfailed found lead (went_on o w s b) =
+    record { far = far; is = is; was_taken = t; waiting = w; busy_still = s; found = omega (arith, b, found); lead = lead }
 
 again_by : (op : DmiOp) (taken : Bool) (busy : ℕ) (out : DmiScan) (f : Far) (c : Chip) (new : Option Far) → out.op ≢ 0 → out.op ≢ 2
     → (counts_in c.inside).dmi_busy ≡ (counts_in (chip_of f).inside).dmi_busy + busy
+    → (taken ≡ true → Paced (chip_of f).inside → Lead op (chip_of f).inside c.inside)
     → Stage op taken (chip_of f).inside c.inside → (dtm_of c.inside).sticky ≡ Clear → DmiScanned (next_scan op taken) out c new
     → FoundAgain op taken busy (chip_of f) new
-again_by op false busy out f c new undone unfailed found (ready e v s) clear d =
+again_by op false busy out f c new undone unfailed found lead (ready e v s) clear d =
     absurd (undone (ready_op d.scanned.before v (chip_of f).inside c.inside out s (heard_is (carrying op) out c new d)))
-again_by op false busy out f c new undone unfailed found (sent e w) clear d = false_is_true e
-again_by op true busy out f c new undone unfailed found (ready e v s) clear d = false_is_true (sym e)
-again_by op true busy out f c new undone unfailed found (sent e w) clear d =
-    again_step op true busy out f new d.scanned.far c.inside d.scanned.is refl undone unfailed found (outcome op out f c new w clear d)
+again_by op false busy out f c new undone unfailed found lead (sent e w) clear d = false_is_true e
+again_by op true busy out f c new undone unfailed found lead (ready e v s) clear d = false_is_true (sym e)
+again_by op true busy out f c new undone unfailed found lead (sent e w) clear d =
+    again_step op true busy out f new d.scanned.far c.inside d.scanned.is refl undone unfailed found
+    (λ paced. lead_again op out f c new (lead refl paced) d) (outcome op out f c new w clear d)
 
 pub found_again : (op : DmiOp) (taken : Bool) (busy : ℕ) (out : DmiScan) (old mid new : Option Far) → out.op ≢ 0 → out.op ≢ 2
     → WhereTold (Underway op taken busy) old mid → WhereTold (DmiScanned (next_scan op taken) out) mid new
@@ -311,14 +346,15 @@ found_again op taken busy out old mid new undone unfailed u d =
   where
     step : (f : Far) (u : Underway op taken busy (chip_of f) mid) → DmiScanned (next_scan op taken) out (chip_of u.far) new
         → FoundAgain op taken busy (chip_of f) new
-    step f u d = again_by op taken busy out f (chip_of u.far) new undone unfailed u.found u.stage u.clear d
+    step f u d = again_by op taken busy out f (chip_of u.far) new undone unfailed u.found u.lead u.stage u.clear d
 
 -- its status was cleared
 cleared_step : (op : DmiOp) (taken : Bool) (busy value : ℕ) (f : Far) (c : Chip) (new : Option Far) → taken ≡ true → Waiting op (chip_of f).inside c.inside
     → (dtm_of c.inside).sticky ≡ Busy
-    → (counts_in c.inside).dmi_busy ≡ (counts_in (chip_of f).inside).dmi_busy + (busy + 1) → WordScanned Dtmcs reset_bits value c new
+    → (counts_in c.inside).dmi_busy ≡ (counts_in (chip_of f).inside).dmi_busy + (busy + 1) → (Paced (chip_of f).inside → Lead op (chip_of f).inside c.inside)
+    → WordScanned Dtmcs reset_bits value c new
     → Underway op taken (busy + 1) (chip_of f) new
-cleared_step op taken busy value f c new t w s found d =
+cleared_step op taken busy value f c new t w s found lead d =
     let x = d.scanned in
     let i = (chip_of f).inside in
     let k = dr_inside x.before x.between x.behind reset_bits Dtmcs c.inside in
@@ -330,6 +366,8 @@ cleared_step op taken busy value f c new t w s found d =
       clear = at_passed (λ (n : Inside). (dtm_of n).sticky ≡ Clear) x.far k x.passed l.clear;
       found = at_passed (λ (n : Inside). (counts_in n).dmi_busy ≡ (counts_in i).dmi_busy + (busy + 1)) x.far k x.passed
           (reset_count x.before x.between x.behind c.inside ∙ found);
+      lead = λ e paced. at_passed (λ (n : Inside). Lead op i n) x.far k x.passed
+          (lead_on op i c.inside k (λ a b. (reset_wait op x.before x.between x.behind a c.inside s b).waiting) (lead paced));
     }
 
 pub cleared : (op : DmiOp) (taken : Bool) (busy value : ℕ) (old mid new : Option Far) → WhereTold (FoundAgain op taken busy) old mid
@@ -338,7 +376,7 @@ cleared op taken busy value old mid new u d = again_then (WordScanned Dtmcs rese
   where
     step : (f : Far) (u : FoundAgain op taken busy (chip_of f) mid) → WordScanned Dtmcs reset_bits value (chip_of u.far) new
         → Underway op taken (busy + 1) (chip_of f) new
-    step f u d = cleared_step op taken busy value f (chip_of u.far) new u.was_taken u.waiting u.busy_still u.found d
+    step f u d = cleared_step op taken busy value f (chip_of u.far) new u.was_taken u.waiting u.busy_still u.found u.lead d
 
 pub clear_cut : (op : DmiOp) (taken : Bool) (busy : ℕ) (old mid new : Option Far) → WhereTold (FoundAgain op taken busy) old mid
     → WhereTold (CutFrom Dtmcs reset_bits) mid new → WhereTold (OperationCut op) old new

@@ -6,6 +6,7 @@ ghost use Rattle.probe_run.specs.Looks.{look_act};
 ghost use Rattle.probe_run.specs.Outcomes.{FirstBroke, asks};
 ghost use Rattle.probe_run.specs.Requests.{control_word};
 ghost use Rattle.debug_model.specs.Kept.{CanCall, Keeps};
+ghost use Rattle.debug_model.specs.Rises.{Within};
 ghost use Rattle.probe_run.specs.Told.{Breaks, told};
 
 use arrayvec::ArrayVec;
@@ -42,6 +43,7 @@ pub fn control<D: Dmi>(link: &mut D, hart: u16, request: Request) -> Result<(), 
     ensures did { OnOk result (Did (told (D.seen link.old)) (Put dmcontrol_address (control_word request hart) ∷ []) (told (D.seen link.new))) }
     ensures broke { IfErr result (Breaks (Broke [] (Attempt.Operation (Write dmcontrol_address (control_word request hart)))) (D.seen link.old)
         (D.seen link.new)) }
+    ensures rises { Within 1 (D.seen link.old) (D.seen link.new) }
     ensures keeps { Keeps Some (D.seen link.old) (D.seen link.new) result }
 {
     link.write(Dmcontrol::ADDRESS, word_for(hart, request))?;
@@ -53,6 +55,7 @@ pub fn control_and_look<D: Dmi>(link: &mut D, hart: u16, request: Request) -> Re
     requires callable { CanCall (D.seen link.old) }
     ensures did { IfOk result (λ word. Did (told (D.seen link.old)) (asks request hart ++ look_act word ∷ []) (told (D.seen link.new))) }
     ensures broke { IfErr result (Breaks (FirstBroke request hart) (D.seen link.old) (D.seen link.new)) }
+    ensures rises { Within 2 (D.seen link.old) (D.seen link.new) }
     ensures keeps { Keeps Some (D.seen link.old) (D.seen link.new) result }
 {
     let mut words = ArrayVec::new();

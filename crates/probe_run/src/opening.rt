@@ -6,6 +6,7 @@ ghost use Rattle.probe_run.specs.Opening.{Activated, ActivationFails, BusCleared
 ghost use Rattle.probe_run.specs.Opening.{ConnectFails, LosesLoaded, ModuleFails, ModuleShows, Opened, OpenedAs, OpensLoaded, Then, TransportFails, TransportFits};
 ghost use Rattle.probe_run.specs.Opening.{bus_fits, clears_cmderr, clears_sberror, commands_fit, is_active, release_of, starts_none, transport_fits};
 ghost use Rattle.debug_model.specs.Kept.{CanCall, Keeps};
+ghost use Rattle.debug_model.specs.Rises.{Within};
 ghost use Rattle.probe_run.specs.Told.{Fails, told};
 ghost use Rattle.probe_run.specs.Opening.{opening_why};
 
@@ -115,6 +116,7 @@ fn check_transport<D: Dmi>(link: &mut D) -> Result<(), ConnectFault>
     requires callable { CanCall (D.seen link.old) }
     ensures did { OnOk result (TransportFits (told (D.seen link.old)) (told (D.seen link.new))) }
     ensures fails { IfErr result (Fails TransportFails (D.seen link.old) (D.seen link.new)) }
+    ensures rises { Within 1 (D.seen link.old) (D.seen link.new) }
     ensures keeps { Keeps opening_why (D.seen link.old) (D.seen link.new) result }
 {
     let word = link.dtmcs()?;
@@ -129,6 +131,7 @@ fn activate<D: Dmi>(link: &mut D) -> Result<(), ConnectFault>
     requires callable { CanCall (D.seen link.old) }
     ensures did { OnOk result (Activated (told (D.seen link.old)) (told (D.seen link.new))) }
     ensures fails { IfErr result (Fails ActivationFails (D.seen link.old) (D.seen link.new)) }
+    ensures rises { Within 65 (D.seen link.old) (D.seen link.new) }
     ensures keeps { Keeps opening_why (D.seen link.old) (D.seen link.new) result }
 {
     let mut words = ArrayVec::new();
@@ -154,6 +157,7 @@ fn check_module<D: Dmi>(link: &mut D) -> Result<Version, ConnectFault>
     requires callable { CanCall (D.seen link.old) }
     ensures did { IfOk result (λ version. ModuleShows version (told (D.seen link.old)) (told (D.seen link.new))) }
     ensures fails { IfErr result (Fails ModuleFails (D.seen link.old) (D.seen link.new)) }
+    ensures rises { Within 1 (D.seen link.old) (D.seen link.new) }
     ensures keeps { Keeps opening_why (D.seen link.old) (D.seen link.new) result }
 {
     let word = look(link)?;
@@ -168,6 +172,7 @@ fn check_commands<D: Dmi>(link: &mut D) -> Result<(), ConnectFault>
     requires callable { CanCall (D.seen link.old) }
     ensures did { OnOk result (CommandsFit (told (D.seen link.old)) (told (D.seen link.new))) }
     ensures fails { IfErr result (Fails CommandsFail (D.seen link.old) (D.seen link.new)) }
+    ensures rises { Within 1 (D.seen link.old) (D.seen link.new) }
     ensures keeps { Keeps opening_why (D.seen link.old) (D.seen link.new) result }
 {
     let word = link.read(Abstractcs::ADDRESS)?;
@@ -177,11 +182,13 @@ fn check_commands<D: Dmi>(link: &mut D) -> Result<(), ConnectFault>
     Ok(())
 }
 
+#[tactic(auto, using(debug_model::proofs::RiseLemmas::within_then, debug_model::proofs::RiseLemmas::within_more))]
 /// Clears the errors of `abstractcs`, writes `abstractauto`, reads `sbcs`, and clears its errors.
 fn check_bus<D: Dmi>(link: &mut D) -> Result<(), ConnectFault>
     requires callable { CanCall (D.seen link.old) }
     ensures did { OnOk result (Then BusFits BusCleared (told (D.seen link.old)) (told (D.seen link.new))) }
     ensures fails { IfErr result (Fails BusFails (D.seen link.old) (D.seen link.new)) }
+    ensures rises { Within 4 (D.seen link.old) (D.seen link.new) }
     ensures keeps { Keeps opening_why (D.seen link.old) (D.seen link.new) result }
 {
     let mut words = ArrayVec::new();
@@ -213,6 +220,7 @@ pub fn connect<D: Dmi>(link: &mut D) -> Result<Target, ConnectFault>
     ensures ready { OnOk result (IsAsLoaded (D.seen link.old).far → IsReady (D.seen link.new).far) }
     ensures selects { OnOk result (IsAsLoaded (D.seen link.old).far → Selects 0 (D.seen link.new).far) }
     ensures lost { IfErr result (LosesLoaded (D.seen link.old).far (D.seen link.new).far) }
+    ensures rises { Within 72 (D.seen link.old) (D.seen link.new) }
     ensures keeps { Keeps opening_why (D.seen link.old) (D.seen link.new) result }
 {
     check_transport(link)?;

@@ -6,6 +6,7 @@ ghost use Rattle.probe_run.specs.Happens.{Exists, HaltLeft, HaltsAt, Leaves, Res
 ghost use Rattle.probe_run.specs.Looks.{test_of};
 ghost use Rattle.probe_run.specs.Outcomes.{AskedAs, HaltFails, HaltedBy, ResumeFails, ResumedBy, RunBroke, StepFails, SteppedBy};
 ghost use Rattle.debug_model.specs.Kept.{CanCall, Keeps};
+ghost use Rattle.debug_model.specs.Rises.{Within};
 ghost use Rattle.probe_run.specs.Told.{Breaks, Fails, OnChip, told};
 ghost use Rattle.probe_run.specs.Outcomes.{run_why};
 
@@ -25,6 +26,7 @@ fn ask<D: Dmi>(
     requires callable { CanCall (D.seen link.old) }
     ensures asked { IfOk result (AskedAs request hart wanted (told (D.seen link.old)) (told (D.seen link.new))) }
     ensures broke { IfErr result (Breaks (RunBroke request (test_of wanted) hart) (D.seen link.old) (D.seen link.new)) }
+    ensures rises { Within 65 (D.seen link.old) (D.seen link.new) }
     ensures keeps { Keeps Some (D.seen link.old) (D.seen link.new) result }
 {
     let mut word = control_and_look(link, hart, request)?;
@@ -44,6 +46,7 @@ fn ask<D: Dmi>(
 }
 
 impl Running {
+    #[tactic(auto, using(debug_model::proofs::RiseLemmas::within_then, debug_model::proofs::RiseLemmas::within_more))]
     /// Halts the hart: one write of `dmcontrol` asks it, Looks follow until one sees it halted, at most 64, and one write clears the request.
     /// `NoHalt(64)` where no Look saw it halted: the request is still set then.
     pub fn halt<D: Dmi>(self, link: &mut D) -> Result<Halted, RunFault>
@@ -59,6 +62,7 @@ impl Running {
         ensures ready { OnOk result (IsReady (D.seen link.new).far) }
         ensures selects { OnOk result (Selects self.number (D.seen link.new).far) }
         ensures halted { OnOk result (IsHalted self.number (D.seen link.new).far) }
+        ensures rises { Within 66 (D.seen link.old) (D.seen link.new) }
         ensures keeps { Keeps run_why (D.seen link.old) (D.seen link.new) result }
     {
         match ask(link, self.number, Request::Halt, Wanted::Halted)? {
@@ -90,6 +94,7 @@ impl Halted {
         ensures ready { OnOk result (IsReady (D.seen link.new).far) }
         ensures selects { OnOk result (Selects self.number (D.seen link.new).far) }
         ensures exists { OnOk result (Exists self.number (D.seen link.new).far) }
+        ensures rises { Within 65 (D.seen link.old) (D.seen link.new) }
         ensures keeps { Keeps run_why (D.seen link.old) (D.seen link.new) result }
     {
         match ask(link, self.number, Request::Resume, Wanted::Acknowledged)? {
@@ -116,6 +121,7 @@ impl Halted {
         ensures ready { OnOk result (IsReady (D.seen link.new).far) }
         ensures selects { OnOk result (Selects self.number (D.seen link.new).far) }
         ensures halted { OnOk result (IsHalted self.number (D.seen link.new).far) }
+        ensures rises { Within 65 (D.seen link.old) (D.seen link.new) }
         ensures keeps { Keeps run_why (D.seen link.old) (D.seen link.new) result }
     {
         match ask(link, self.number, Request::Resume, Wanted::Both)? {

@@ -10,7 +10,7 @@ use probe_dmi::Link;
 use probe_scan::ScriptedScan;
 
 /// The most calls that a recorder keeps.
-const CALLS_MOST: usize = 64;
+const CALLS_MOST: usize = 100;
 
 /// One call of a scan.
 #[derive(Clone, Copy, Debug, Default, PartialEq, Eq)]

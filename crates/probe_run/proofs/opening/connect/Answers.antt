@@ -1,3 +1,4 @@
+use Rattle.debug_model.proofs.RiseLemmas.{within_more, within_then}
 use Rattle.probe_run.specs.Told.{told}
 use Rattle.std.proofs.Common.{◌≤◌, ◌∙◌, Some, ap, arith, sym}
 use Rattle.probe_run.specs.Opening.{ConnectFails, LosesLoaded}
@@ -215,3 +216,35 @@ returns-clause-selects g c =
     (opened_by (told (g.D.Dmi.seen c.args.link.now)) (told (g.D.Dmi.seen c.check_transport.new.link)) (told (g.D.Dmi.seen c.activate.new.link))
     (told (g.D.Dmi.seen c.check_module.new.link)) (told (g.D.Dmi.seen c.check_commands.new.link)) (told (g.D.Dmi.seen c.check_bus.new.link)) c.in_ok-check_transport.ensures.did c.in_ok-activate.ensures.did
     c.in_ok-version.ensures.did.fits c.in_ok-check_commands.ensures.did c.in_ok-check_bus.ensures.did)
+
+pub returns-in_err-check_transport-clause-rises : goal.returns-in_err-check_transport-clause-rises
+returns-in_err-check_transport-clause-rises g c = within_more 1 _ _ _ c.check_transport.ensures.rises (omega arith)
+
+pub returns-in_err-activate-clause-rises : goal.returns-in_err-activate-clause-rises
+returns-in_err-activate-clause-rises g c = (within_then 1 65 72 _ (g.D.Dmi.seen c.check_transport.new.link) _ c.check_transport.ensures.rises c.activate.ensures.rises
+    (c.check_transport.ensures.keeps.fixed) (omega arith))
+
+pub returns-in_err-version-clause-rises : goal.returns-in_err-version-clause-rises
+returns-in_err-version-clause-rises g c = (within_then 66 1 72 _ (g.D.Dmi.seen c.activate.new.link) _ (within_then 1 65 66 _ (g.D.Dmi.seen c.check_transport.new.link) _ c.check_transport.ensures.rises c.activate.ensures.rises
+    (c.check_transport.ensures.keeps.fixed) (omega arith)) c.check_module.ensures.rises
+    (c.activate.ensures.keeps.fixed ∙ c.check_transport.ensures.keeps.fixed) (omega arith))
+
+pub returns-in_err-check_commands-clause-rises : goal.returns-in_err-check_commands-clause-rises
+returns-in_err-check_commands-clause-rises g c = (within_then 67 1 72 _ (g.D.Dmi.seen c.check_module.new.link) _ (within_then 66 1 67 _ (g.D.Dmi.seen c.activate.new.link) _ (within_then 1 65 66 _ (g.D.Dmi.seen c.check_transport.new.link) _ c.check_transport.ensures.rises c.activate.ensures.rises
+    (c.check_transport.ensures.keeps.fixed) (omega arith)) c.check_module.ensures.rises
+    (c.activate.ensures.keeps.fixed ∙ c.check_transport.ensures.keeps.fixed) (omega arith)) c.check_commands.ensures.rises
+    (c.check_module.ensures.keeps.fixed ∙ c.activate.ensures.keeps.fixed ∙ c.check_transport.ensures.keeps.fixed) (omega arith))
+
+pub returns-in_err-check_bus-clause-rises : goal.returns-in_err-check_bus-clause-rises
+returns-in_err-check_bus-clause-rises g c = (within_then 68 4 72 _ (g.D.Dmi.seen c.check_commands.new.link) _ (within_then 67 1 68 _ (g.D.Dmi.seen c.check_module.new.link) _ (within_then 66 1 67 _ (g.D.Dmi.seen c.activate.new.link) _ (within_then 1 65 66 _ (g.D.Dmi.seen c.check_transport.new.link) _ c.check_transport.ensures.rises c.activate.ensures.rises
+    (c.check_transport.ensures.keeps.fixed) (omega arith)) c.check_module.ensures.rises
+    (c.activate.ensures.keeps.fixed ∙ c.check_transport.ensures.keeps.fixed) (omega arith)) c.check_commands.ensures.rises
+    (c.check_module.ensures.keeps.fixed ∙ c.activate.ensures.keeps.fixed ∙ c.check_transport.ensures.keeps.fixed) (omega arith)) c.check_bus.ensures.rises
+    (c.check_commands.ensures.keeps.fixed ∙ c.check_module.ensures.keeps.fixed ∙ c.activate.ensures.keeps.fixed ∙ c.check_transport.ensures.keeps.fixed) (omega arith))
+
+pub returns-clause-rises : goal.returns-clause-rises
+returns-clause-rises g c = (within_then 68 4 72 _ (g.D.Dmi.seen c.check_commands.new.link) _ (within_then 67 1 68 _ (g.D.Dmi.seen c.check_module.new.link) _ (within_then 66 1 67 _ (g.D.Dmi.seen c.activate.new.link) _ (within_then 1 65 66 _ (g.D.Dmi.seen c.check_transport.new.link) _ c.check_transport.ensures.rises c.activate.ensures.rises
+    (c.check_transport.ensures.keeps.fixed) (omega arith)) c.check_module.ensures.rises
+    (c.activate.ensures.keeps.fixed ∙ c.check_transport.ensures.keeps.fixed) (omega arith)) c.check_commands.ensures.rises
+    (c.check_module.ensures.keeps.fixed ∙ c.activate.ensures.keeps.fixed ∙ c.check_transport.ensures.keeps.fixed) (omega arith)) c.check_bus.ensures.rises
+    (c.check_commands.ensures.keeps.fixed ∙ c.check_module.ensures.keeps.fixed ∙ c.activate.ensures.keeps.fixed ∙ c.check_transport.ensures.keeps.fixed) (omega arith))

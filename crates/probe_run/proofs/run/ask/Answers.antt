@@ -1,4 +1,5 @@
-use Rattle.std.proofs.Common.{◌∙◌, sym, ap, arith}
+use Rattle.std.proofs.Common.{◌∙◌, ◌+◌, sym, ap, arith}
+use Rattle.debug_model.proofs.RiseLemmas.{within_more, within_then}
 use Rattle.probe_run.specs.Told.{told}
 use Rattle.probe_run.specs.Looks.{seen_in_status, test_of}
 use Rattle.probe_run.specs.Outcomes.{RunBroke, asks}
@@ -18,6 +19,7 @@ looks-init g c = record {
   stands = c.in_ok-word.ensures.keeps.behind;
   later = c.control_and_look.ensures.keeps.later;
   fixed = c.control_and_look.ensures.keeps.fixed;
+  rises = c.control_and_look.ensures.rises;
   looked = looked_first (test_of c.args.wanted) (asks c.args.request c.args.hart) _ _ _ c.in_ok-word.ensures.did;
 }
 
@@ -37,8 +39,20 @@ looks-preserved g c = record {
   stands = c.in_ok-word-2.ensures.keeps.behind;
   later = let a = c.looks.invariant.later in let b = c.look.ensures.keeps.later in omega arith;
   fixed = c.look.ensures.keeps.fixed ∙ c.looks.invariant.fixed;
+  rises = within_then (1 + c.looks._looks) 1 _ _ (g.D.Dmi.seen c.looks.link) _ c.looks.invariant.rises c.look.ensures.rises c.looks.invariant.fixed
+      (omega arith);
   looked = looked_again (test_of c.args.wanted) (asks c.args.request c.args.hart) _ (told (g.D.Dmi.seen c.looks.link)) _ c.looks._looks c.looks.word
       c.in_ok-word-2.word c.looks.invariant.looked
       (ap (λ s. test_of c.args.wanted (seen_in_status s)) (sym c.from_word.ensures) ∙ sym c.is_shown.ensures ∙ c.if-is_shown.false)
       c.in_ok-word-2.ensures.did;
 }
+
+pub returns-in_err-word-clause-rises : goal.returns-in_err-word-clause-rises
+returns-in_err-word-clause-rises g c = within_more 2 _ _ _ c.control_and_look.ensures.rises (omega arith)
+
+pub returns-in_err-word-2-clause-rises : goal.returns-in_err-word-2-clause-rises
+returns-in_err-word-2-clause-rises g c = within_then (1 + c.looks._looks) 1 _ _ (g.D.Dmi.seen c.looks.link) _ c.looks.invariant.rises c.look.ensures.rises
+    c.looks.invariant.fixed (omega arith)
+
+pub returns-then-is_shown-clause-rises : goal.returns-then-is_shown-clause-rises
+returns-then-is_shown-clause-rises g c = within_more (1 + c.looks._looks) _ _ _ c.looks.invariant.rises (omega arith)
