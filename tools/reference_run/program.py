@@ -10,10 +10,13 @@ HANDLER = 0x80010000  # its trap handler
 DATA = 0x80018000  # the numbers that it reads and writes
 DATA_COUNT = 512
 OUTSIDE = 0x81000  # the upper immediate of an address without memory
+MSIP = 0x2000  # that of the hart's MSIP word
 
-MSTATUS, MISA, MTVEC, MSCRATCH, MEPC, MCAUSE, MTVAL, MHARTID = 0x300, 0x301, 0x305, 0x340, 0x341, 0x342, 0x343, 0xF14
+MSTATUS, MISA, MIE, MTVEC, MSCRATCH, MEPC, MCAUSE, MTVAL, MIP, MHARTID = 0x300, 0x301, 0x304, 0x305, 0x340, 0x341, 0x342, 0x343, 0x344, 0xF14
 ABSENT = 0x8FF
 MIE_MPIE = 0x88
+SOFTWARE = 8  # the bit of machine software interrupts in mie and mip, and that of MIE in mstatus
+VECTORED = 1  # the mode in mtvec
 
 # Registers with a part of their own: the middle of the data, an address, four corner values, the fold of all traps, and its scratch.
 BASE, ADDRESS, CORNERS, FOLD, SCRATCH = 8, 9, (26, 27, 28, 29), 30, 31
@@ -158,6 +161,26 @@ def system_form(w):
     ])
 
 
+def software(w):
+    """The hart's MSIP word is written, with more odd numbers than even ones, or read."""
+    return [u_word(LUI, ADDRESS, MSIP), w.choose([
+        s_word(2, ADDRESS, w.rs(), 0),
+        s_word(2, ADDRESS, 29, 0),
+        i_word(LOAD, 2, w.rd(), ADDRESS, 0),
+    ])]
+
+
+def interrupt_form(w):
+    """Interrupts or their vectored mode are switched on or off, or read."""
+    rd = w.rd()
+    return w.choose([
+        [i_word(SYSTEM, w.choose([6, 6, 7]), 0, SOFTWARE, w.choose([MSTATUS, MIE]))],
+        [i_word(SYSTEM, w.choose([6, 7]), 0, VECTORED, MTVEC)],
+        [csrr(rd, w.choose([MIE, MIP])), i_word(OP_IMM, 7, rd, rd, SOFTWARE)],
+        [csrr(rd, MTVEC)],
+    ])
+
+
 def outside(w):
     at = [u_word(LUI, ADDRESS, OUTSIDE)]
     return at + w.choose([
@@ -179,7 +202,8 @@ def misaligned(w):
 
 FORMS = (
     [register_form] * 5 + [word_form] * 3 + [immediate_form] * 2 + [immediate_word_form] + [upper_form]
-    + [load] * 2 + [store] * 2 + [atomic] * 3 + [branch] * 2 + [reserved, jump, csr_form, system_form, outside, misaligned]
+    + [load] * 2 + [store] * 2 + [atomic] * 3 + [branch] * 2 + [software] * 2 + [interrupt_form] * 4
+    + [reserved, jump, csr_form, system_form, outside, misaligned]
 )
 
 
@@ -201,15 +225,21 @@ def program(seed, count):
 
 
 def handler():
-    """Folds mepc, mcause, MIE with MPIE, and mtval where the manuals fix it, into x30; goes on behind the trap."""
+    """Folds mepc, mcause, MIE with MPIE, and mtval where the manuals fix it, into x30; goes on behind a trap, and at an interrupt, which it ends.
+
+    A software interrupt of the vectored mode enters three words behind an exception.
+    """
     fold = [
         r_word(OP, 0, 0, FOLD, FOLD, SCRATCH), i_word(OP_IMM, 1, SCRATCH, FOLD, 7), r_word(OP, 4, 0, FOLD, FOLD, SCRATCH),
     ]
     return [
+        j_word(0, 16), ECALL, ECALL, addi(FOLD, FOLD, 3),
         csrr(SCRATCH, MEPC), *fold,
         csrr(SCRATCH, MCAUSE), *fold,
         csrr(SCRATCH, MSTATUS), i_word(OP_IMM, 7, SCRATCH, SCRATCH, MIE_MPIE), *fold,
         csrr(SCRATCH, MCAUSE), i_word(OP_IMM, 3, SCRATCH, SCRATCH, 4), b_word(1, SCRATCH, 0, 20),
         csrr(SCRATCH, MTVAL), *fold,
+        csrr(SCRATCH, MCAUSE), b_word(4, SCRATCH, 0, 20),
         csrr(SCRATCH, MEPC), addi(SCRATCH, SCRATCH, 4), csrrw(0, MEPC, SCRATCH), MRET,
+        u_word(LUI, SCRATCH, MSIP), s_word(2, SCRATCH, 0, 0), MRET,
     ]

@@ -10,6 +10,7 @@ from instructions import *
 from program import *
 
 BOOT = 0x80020000
+MTIMECMP = 0x2004  # the upper immediate of the timer's address, which pends until it is written
 TABLE = 0x80021000
 IMAGE_SIZE = TABLE + 0x1000 - START
 
@@ -28,6 +29,7 @@ def boot():
     """Puts the registers into the state that the program starts in."""
     words = address_of(1, HANDLER, BOOT) + [csrrw(0, MTVEC, 1)]
     words += [csrrw(0, csr, 0) for csr in (MSTATUS, MSCRATCH, MEPC, MCAUSE, MTVAL)]
+    words += [u_word(LUI, 1, MTIMECMP), addi(2, 0, -1), s_word(3, 1, 2, 0)]
     words += address_of(SCRATCH, TABLE, BOOT + 4 * len(words))
     words += [i_word(LOAD, 3, r, SCRATCH, 8 * r) for r in range(1, 31)]
     words += [addi(SCRATCH, 0, 0)]

@@ -1,5 +1,5 @@
 #!/usr/bin/env python3
-"""Writes the test data `crates/rv_tests/src/hart/reference/run.rt`: a program of random instructions, and what QEMU makes of it."""
+"""Writes the test data `crates/rv_tests/src/hart/reference/run.rt`: a program of random instructions and software interrupts, and what QEMU makes of it."""
 
 import sys
 
@@ -19,9 +19,9 @@ def fold(sum, state):
 
 
 def folds(seen):
-    """The sums behind every so many instructions, and the last one."""
+    """The sums of the states in front of every so many instructions, and of all. An interrupt is no instruction: it is taken in front of one."""
     sum, sums = 0, []
-    for place, state in enumerate(seen[1:], 1):
+    for place, state in enumerate(seen[:-1], 1):
         sum = fold(sum, state)
         if place % EVERY == 0 or place == len(seen) - 1:
             sums.append(sum)
@@ -36,11 +36,11 @@ def table(comment, name, kind, digits, numbers):
 def main(seed, count):
     words = program(seed, count)
     seen = states(words)
-    print("//! Data that `tools/reference_run` wrote: a program, and sums of what QEMU's hart held behind its instructions.\n")
+    print("//! Data that `tools/reference_run` wrote: a program, and sums of what QEMU's hart held in front of its instructions.\n")
     print(table("The program.", "PROGRAM", "u32", 8, words))
-    print(table("What it calls at a trap.", "TRAP_HANDLER", "u32", 8, handler()))
+    print(table("What it calls at a trap or an interrupt.", "TRAP_HANDLER", "u32", 8, handler()))
     print(f"/// How many instructions are executed until the program ends.\npub const EXECUTED: u32 = {len(seen) - 1};\n")
-    print(table(f"The sums behind every {EVERY} of them, and behind the last.", "SUMS", "u64", 16, folds(seen)))
+    print(table(f"The sums of the states in front of every {EVERY} of them, and of all.", "SUMS", "u64", 16, folds(seen)))
 
 
 if __name__ == "__main__":

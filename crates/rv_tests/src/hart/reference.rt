@@ -1,4 +1,4 @@
-//! A program of random instructions in Machine Mode, and what QEMU makes of the hart behind each of them.
+//! A program of random instructions in Machine Mode, with software interrupts, and what QEMU makes of the hart in front of each of them.
 //! `tools/reference_run` wrote the data, and says what it leaves out.
 
 mod run;
@@ -7,7 +7,7 @@ use super::{MCAUSE, MEPC, MSCRATCH, MTVEC, START, put_words, set_csr};
 use run::{EXECUTED, PROGRAM, SUMS, TRAP_HANDLER};
 use rv_hart::Hart;
 use rv_mem::Ram;
-use rv_model::Size;
+use rv_model::{Did, Size};
 use std::alloc::Global;
 use std::process::Abort;
 
@@ -18,7 +18,7 @@ const DATA_START: u64 = 0x8001_8000;
 
 const DATA_COUNT: u64 = 512;
 
-/// How many instructions each of the sums stands behind, but for the last.
+/// Of how many more states each of the sums is than the one before, but for the last.
 const EVERY: u32 = 100;
 
 /// The numbers at the start, in registers and in memory.
@@ -27,7 +27,7 @@ fn number(place: u64) -> u64 {
 }
 
 fn ram_at_start(rt: &impl Abort, alloc: Global) -> Ram {
-    let mut ram = Ram::new(alloc, 0x2_0000).expect(rt, "RAM");
+    let mut ram = Ram::with_msip(alloc, 0x2_0000, 1).expect(rt, "RAM");
     put_words(rt, &mut ram, START, &PROGRAM);
     put_words(rt, &mut ram, TRAP_START, &TRAP_HANDLER);
     for k in 0..DATA_COUNT {
@@ -69,12 +69,22 @@ fn with_hart(rt: &impl Abort, sum: u64, hart: &Hart) -> u64 {
     sum
 }
 
-/// Executes this many instructions, and folds the hart behind each into the sum.
+/// Executes an instruction, and folds the hart in front of it into the sum. An interrupt is taken in front of an instruction, and is none.
+fn execute_one(rt: &impl Abort, hart: &mut Hart, ram: &mut Ram, sum: u64) -> u64 {
+    let seen = with_hart(rt, sum, hart);
+    if hart.exec(ram) != Did::Interrupted {
+        return seen;
+    }
+    let seen = with_hart(rt, sum, hart);
+    assert_ne!(rt; hart.exec(ram), Did::Interrupted);
+    seen
+}
+
+/// Executes this many instructions, and folds the hart in front of each into the sum.
 fn execute(rt: &impl Abort, hart: &mut Hart, ram: &mut Ram, count: u32, sum: u64) -> u64 {
     let mut sum = sum;
     for _ in 0..count {
-        let _did = hart.exec(ram);
-        sum = with_hart(rt, sum, hart);
+        sum = execute_one(rt, hart, ram, sum);
     }
     sum
 }
