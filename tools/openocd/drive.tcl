@@ -18,6 +18,7 @@ proc grows {} {
 
 # The hart's number, and what it holds behind its steps: they begin at the program's first word.
 proc drive {hart} {
+    global RELEASE
     # Debug Specification: a hart's registers through abstract commands. misa is RV64 with A, I and M.
     check "examined as RV64IMA" "0x8000000000001101 [format 0x%x $hart]" {regs misa mhartid}
     check "stands at the first word" 0x80000000 {regs pc}
