@@ -120,3 +120,4 @@ pub mod BusStoreCuts
 pub mod BusStoreCauses
 pub mod BusStoreCalls
 pub mod BusStoreParts
+pub mod BusAwaitCalls

@@ -2,6 +2,7 @@ pub mod Accesses
 pub mod BlockCuts
 pub mod BlockRuns
 pub mod Blocks
+pub mod BusAwaits
 pub mod BusBlockRuns
 pub mod BusBlocks
 pub mod BusRuns
