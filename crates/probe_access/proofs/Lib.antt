@@ -121,3 +121,7 @@ pub mod BusStoreCauses
 pub mod BusStoreCalls
 pub mod BusStoreParts
 pub mod BusAwaitCalls
+pub mod BusStoreAwaits
+pub mod BusStoreAwaitTold
+pub mod BusStoreAwaitCuts
+pub mod BusStoreAwaitFaults

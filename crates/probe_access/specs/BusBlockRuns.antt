@@ -6,11 +6,15 @@ use Rattle.probe_access.specs.declared.fault.AccessFault.{AccessFault}
 use Rattle.probe_access.specs.declared.fault.AccessFault.TheVariants as fault
 use Rattle.probe_access.specs.declared.odd.OddStatus.{OddStatus}
 use Rattle.probe_access.specs.declared.odd.OddStatus.TheVariants.{Sbcs}
+use Rattle.debug_model.specs.Addresses.{sbdata0_address}
+use Rattle.debug_model.specs.Commands.{low_half}
 use Rattle.probe_run.specs.Acts.{Act, Attempt, Broke, Did, Tells}
+use Rattle.probe_run.specs.Acts.Act.{Put}
+use Rattle.probe_access.specs.BusAwaits.{StoresAwaited}
 use Rattle.probe_access.specs.Blocks.{element_at}
 use Rattle.probe_access.specs.BusStoreStreams.{StoresStopped, StoresThrough}
 use Rattle.probe_access.specs.BusStreams.{RanThrough, Stopped}
-use Rattle.probe_access.specs.BusRuns.{BusAlwaysBusy, BusLoaded, BusRefused, BusStored, bus_busy, bus_collided, bus_error, bus_poll, outside_error, read_started, write_started}
+use Rattle.probe_access.specs.BusRuns.{BusAlwaysBusy, BusLoaded, BusRefused, bus_busy, bus_collided, bus_error, bus_poll, outside_error, read_started}
 
 -- ---- loads
 
@@ -33,22 +37,21 @@ pub data BusLoadsRefused (size : Size) (address : ℕ) (values : List ℕ) (old 
 
 -- ---- stores
 
--- just so many elements from an address on were stored, in this order: each by an access of its own, or the first of them in a run that went through, or
--- that ended where one was asked for too early
+-- just so many elements from an address on were stored, in this order: in a run that went through; or the first of them in one that ended where one was
+-- asked for too early, and the others each awaited before the next
 pub data BusStores (size : Size) (address value : ℕ) (old : Tells) : ℕ → Tells → Type 0 where
-  nothing : BusStores size address value old 0 old
-  alone : (n : ℕ) (mid new : Tells) → BusStores size address value old n mid → BusStored size (element_at size address n) value mid new
-      → BusStores size address value old (n + 1) new
   ran : (count : ℕ) (new : Tells) → StoresThrough size address value count old new → BusStores size address value old count new
   ran_on : (count last done : ℕ) (new : Tells) → StoresStopped size address value count last done old new → bus_error last ≡ 0 → bus_collided last ≡ true
       → BusStores size address value old done new
+  awaited : (from n : ℕ) (mid new : Tells) → BusStores size address value old from mid → StoresAwaited size address value from mid n new
+      → BusStores size address value old n new
 
 -- and the next was tried and refused
 pub data BusStoresRefused (size : Size) (address value count : ℕ) (old new : Tells) : Type 0 where
-  alone : (n : ℕ) (mid started : Tells) → n < count → BusStores size address value old n mid
-      → Did mid (write_started size (element_at size address n) value) started → BusRefused started new
-      → BusStoresRefused size address value count old new
   in_run : (last done : ℕ) → done < count → StoresStopped size address value count last done old new → bus_error last ≡ outside_error
+      → BusStoresRefused size address value count old new
+  awaited : (from n : ℕ) (first mid asked : Tells) → n < count → BusStores size address value old from first
+      → StoresAwaited size address value from first n mid → Did mid (Put sbdata0_address (low_half value) ∷ []) asked → BusRefused asked new
       → BusStoresRefused size address value count old new
 
 -- ---- what a fault follows

@@ -14,8 +14,9 @@ ghost use Rattle.probe_run.specs.Told.{Fails, OnChip, told};
 ghost use Rattle.probe_access.specs.Faults.{access_why};
 
 use crate::blocks::ELEMENTS_MOST;
-use crate::bus::{bus_load, bus_store};
+use crate::bus::bus_load;
 use crate::bus_runs::{element, load_run};
+use crate::bus_store_awaits::store_awaited;
 use crate::bus_store_runs::store_run;
 use crate::fault::AccessFault;
 use arrayvec::ArrayVec;
@@ -63,7 +64,7 @@ pub fn bus_load_block<D: Dmi>(
 
 /// Stores the lowest 1, 2, 4 or 8 bytes of a value so many times, upwards from an address, by the system bus: one access for each, in order, up to
 /// and with the first that lies outside memory. Behind `Memory` of an element those in front of it are stored. Each write of the data starts the next
-/// access; where one came too early, the rest are stored one by one (RISC-V Debug Specification 1.0, "System Bus Access").
+/// access; where one came too early, each of the rest is awaited (RISC-V Debug Specification 1.0, "System Bus Access").
 pub fn bus_store_block<D: Dmi>(
     link: &mut D,
     size: Size,
@@ -88,9 +89,9 @@ pub fn bus_store_block<D: Dmi>(
     ensures keeps { Keeps access_why (D.seen link.old) (D.seen link.new) result }
 {
     let done = store_run(link, size, address, count, value)?;
-    'elements: for number in done..count {
-        let at = element(size, address, number, count);
-        bus_store(link, size, at, value)?;
+    if done == count {
+        return Ok(());
     }
+    store_awaited(link, size, address, done, count, value)?;
     Ok(())
 }
