@@ -12,14 +12,11 @@ use Rattle.probe_run.specs.Opening.{clears_sberror}
 use Rattle.probe_run.proofs.ActLemmas.{broke_then, did_list, did_then}
 use Rattle.probe_access.specs.Accesses.{IfMemory}
 use Rattle.probe_access.specs.Blocks.{element_at}
-use Rattle.probe_access.specs.BusAwaits.{StoresAwaited}
-use Rattle.probe_access.specs.BusBlockRuns.{BusCauses, BusLoads, BusLoadsRefused, BusReported, BusStores}
-use Rattle.probe_access.specs.BusBlockRuns.BusLoads.{alone as loaded_alone}
-use Rattle.probe_access.specs.BusBlockRuns.BusLoadsRefused.{alone as load_alone}
-use Rattle.probe_access.specs.BusRuns.{BusEndFailed, BusEnded, BusLoadFailed, BusLoaded, BusPolled, BusRefused, bus_poll, read_started}
+use Rattle.probe_access.specs.BusAwaits.{AllAwaited, LoadsAwaited, StoresAwaited}
+use Rattle.probe_access.specs.BusBlockRuns.{BusCauses, BusLoads, BusReported, BusStores}
+use Rattle.probe_access.specs.BusRuns.{BusEndFailed, BusEnded, BusPolled, BusRefused, bus_poll}
 use Rattle.probe_access.specs.BusRuns.BusEnding.{at_poll, at_clear}
-use Rattle.probe_access.specs.BusRuns.BusLoadFailed.{in_start as load_start, in_end as load_end, in_fetch as load_fetch}
-use Rattle.probe_access.specs.BusStreams.{Ran, RanThrough, Stopped}
+use Rattle.probe_access.specs.BusStreams.{Ran, RanThrough, RunLoads, Stopped}
 use Rattle.probe_access.proofs.BlockCauses.{Calls, calls, calls_then}
 
 -- ---- a fault behind more calls
@@ -58,7 +55,7 @@ bus_causes_behind a b c p count mid_count new_count (access_fault.Odd shown) le 
 pub polled_calls : (last : ℕ) (a b : Tells) → BusPolled last a b → Calls a b
 polled_calls last a b p = calls _ a b p.did
 
-ended_calls : (a b : Tells) → BusEnded a b → Calls a b
+pub ended_calls : (a b : Tells) → BusEnded a b → Calls a b
 ended_calls a b e = polled_calls e.last a b e.polled
 
 refused_reported : (a c : Tells) → BusRefused a c → BusReported a c
@@ -94,24 +91,7 @@ end_causes address old_count new_count a c (access_fault.Odd shown) later f = re
   did = f.polled.did;
 }
 
-pub bus_load_causes : (size : Size) (address old_count new_count : ℕ) (a c : Tells) (e : AccessFault) → old_count ≤ new_count
-    → BusLoadFailed size address old_count new_count a c e → BusCauses old_count new_count a c e
-bus_load_causes size address old_count new_count a c e later (load_start why is b) =
-    subst (λ (x : AccessFault). BusCauses old_count new_count a c x) (sym is) (b.acts, b.failed, b.broke)
-bus_load_causes size address old_count new_count a c e later (load_end started did f) =
-    bus_causes_behind a started c (calls _ a started did) old_count old_count new_count e (omega arith) later
-    (end_causes address old_count new_count started c e later f)
-bus_load_causes size address old_count new_count a c e later (load_fetch started ended did ends why is b) =
-    subst (λ (x : AccessFault). BusCauses old_count new_count a c x) (sym is)
-    (bus_causes_behind a ended c (calls_then a started ended (calls _ a started did) (ended_calls started ended ends)) old_count old_count new_count
-    (access_fault.Dmi why) (omega arith) later (b.acts, b.failed, b.broke))
-
 -- ---- the calls of loads
-
-pub bus_loaded_calls : (size : Size) (address value : ℕ) (a b : Tells) → BusLoaded size address value a b → Calls a b
-bus_loaded_calls size address value a b l =
-    calls_then a l.ended b (calls_then a l.started l.ended (calls _ a l.started l.starts) (ended_calls l.started l.ended l.ends))
-    (calls _ l.ended b l.fetched.did)
 
 pub ran_calls : (size : Size) (address : ℕ) (read : List ℕ) (old new : Tells) → Ran size address read old new → Calls old new
 ran_calls size address read old new r =
@@ -129,40 +109,33 @@ stopped_calls size address count last values old new s =
     (calls_then old s.ran s.polled (ran_calls size address s.read old s.ran s.runs) (polled_calls last s.ran s.polled s.shows))
     (calls _ s.polled new s.found)
 
+run_loads_calls : (size : Size) (address count : ℕ) (values : List ℕ) (a b : Tells) → RunLoads size address count values a b → Calls a b
+run_loads_calls size address count values a b (RunLoads.all all r) = through_calls size address values a b r
+run_loads_calls size address count values a b (RunLoads.some last s fine early) = stopped_calls size address count last values a b s
+
+pub awaited_load_calls : (size : Size) (address : ℕ) (was : List ℕ) (a : Tells) (values : List ℕ) (b : Tells) → LoadsAwaited size address was a values b
+    → Calls a b
+awaited_load_calls size address was a _ b (LoadsAwaited.begun _ did) = calls _ a b did
+awaited_load_calls size address was a _ b (LoadsAwaited.next values more mid _ s one) =
+    calls_then a mid b (awaited_load_calls size address was a values mid s)
+    (calls_then mid one.ended b (ended_calls mid one.ended one.ends) (calls _ one.ended b one.read.did))
+
+all_awaited_calls : (size : Size) (address count : ℕ) (was is : List ℕ) (a b : Tells) → AllAwaited size address count was is a b → Calls a b
+all_awaited_calls size address count was is a b w =
+    calls_then a w.mid b (awaited_load_calls size address was a w.front w.mid w.awaited)
+    (calls_then w.mid w.last.stopped b
+    (calls_then w.mid w.last.ended w.last.stopped (ended_calls w.mid w.last.ended w.last.ends) (calls _ w.last.ended w.last.stopped w.last.stops))
+    (calls _ w.last.stopped b w.last.read.did))
+
 pub bus_loads_calls : (size : Size) (address : ℕ) (a : Tells) (values : List ℕ) (b : Tells) → BusLoads size address a values b → Calls a b
-bus_loads_calls size address a _ b BusLoads.nothing = calls [] a b nothing
-bus_loads_calls size address a _ b (loaded_alone values value mid _ l one) =
-    calls_then a mid b (bus_loads_calls size address a values mid l) (bus_loaded_calls size (element_at size address (length values)) value mid b one)
-bus_loads_calls size address a _ b (BusLoads.ran values _ r) = through_calls size address values a b r
-bus_loads_calls size address a _ b (BusLoads.ran_on count last values _ s fine early) = stopped_calls size address count last values a b s
-
-pub bus_loads_more : (size : Size) (address at value : ℕ) (values : List ℕ) (old mid new : Tells) → at ≡ element_at size address (length values)
-    → BusLoads size address old values mid → BusLoaded size at value mid new → BusLoads size address old (values ++ value ∷ []) new
-bus_loads_more size address at value values old mid new is loads one =
-    loaded_alone values value mid new loads (subst (λ a. BusLoaded size a value mid new) is one)
-
-ended_refused : (P : Type 0) (address old_count new_count : ℕ) (a c : Tells) (e : AccessFault) → (BusRefused a c → P)
-    → BusEndFailed address old_count new_count a c e → IfMemory P e
-ended_refused P address old_count new_count a c (access_fault.Dmi why) f b = tt
-ended_refused P address old_count new_count a c (access_fault.Memory at) f b = f b.1
-ended_refused P address old_count new_count a c (access_fault.Register number) f b = tt
-ended_refused P address old_count new_count a c access_fault.StillBusy f b = tt
-ended_refused P address old_count new_count a c (access_fault.Run why) f b = tt
-ended_refused P address old_count new_count a c (access_fault.Odd shown) f b = tt
+bus_loads_calls size address a _ b (BusLoads.ran count values _ r) = run_loads_calls size address count values a b r
+bus_loads_calls size address a _ b (BusLoads.ran_behind count first more mid _ s r) =
+    calls_then a mid b (bus_loads_calls size address a first mid s) (run_loads_calls size (element_at size address (length first)) count more mid b r)
+bus_loads_calls size address a _ b (BusLoads.awaited count first values mid _ s w) =
+    calls_then a mid b (bus_loads_calls size address a first mid s) (all_awaited_calls size address count first values mid b w)
 
 pub no_memory : (P : Type 0) (e : AccessFault) (why : DmiFault) → e ≡ access_fault.Dmi why → IfMemory P e
 no_memory P e why is = subst (λ (x : AccessFault). IfMemory P x) (sym is) tt
-
-pub bus_loads_stop : (size : Size) (address at old_count new_count : ℕ) (values : List ℕ) (old mid new : Tells) (e : AccessFault)
-    → at ≡ element_at size address (length values) → BusLoads size address old values mid → BusLoadFailed size at old_count new_count mid new e
-    → IfMemory (BusLoadsRefused size address values old new) e
-bus_loads_stop size address at old_count new_count values old mid new e is loads (load_start why dmi b) =
-    no_memory (BusLoadsRefused size address values old new) e why dmi
-bus_loads_stop size address at old_count new_count values old mid new e is loads (load_end started did f) =
-    ended_refused (BusLoadsRefused size address values old new) at old_count new_count started new e
-    (λ r. load_alone mid started loads (subst (λ a. Did mid (read_started size a) started) is did) r) f
-bus_loads_stop size address at old_count new_count values old mid new e is loads (load_fetch started ended did ends why dmi b) =
-    no_memory (BusLoadsRefused size address values old new) e why dmi
 
 -- ---- and of stores
 

@@ -53,7 +53,7 @@ bus_load_stops size address values (Some f) mid new before one =
     record { before = l.before; behind = l.behind; why = l.why; refused = l.refused; access = l.access } in
     record { far = l.far; is = l.is; mid = site_of before.far; each = before.each; refused = e }
 
-bus_loaded_none : (size : Size) (address : ℕ) (values : List ℕ) (old mid : Option Far) → WhereTold (BusBlockLoadedAt size address values) old mid → mid ≡ None
+pub bus_loaded_none : (size : Size) (address : ℕ) (values : List ℕ) (old mid : Option Far) → WhereTold (BusBlockLoadedAt size address values) old mid → mid ≡ None
     → old ≡ None
 bus_loaded_none size address values None mid before none = refl
 bus_loaded_none size address values (Some f) mid before none = absurd (none-some before.far (sym none ∙ before.is))

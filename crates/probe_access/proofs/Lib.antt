@@ -121,6 +121,12 @@ pub mod BusStoreCauses
 pub mod BusStoreCalls
 pub mod BusStoreParts
 pub mod BusAwaitCalls
+pub mod BusLoadBehind
+pub mod BusLoadAwaits
+pub mod BusLoadAwaitTold
+pub mod BusLoadAwaitCuts
+pub mod BusLoadAwaitFaults
+pub mod BusSpent
 pub mod BusStoreAwaits
 pub mod BusStoreAwaitTold
 pub mod BusStoreAwaitCuts

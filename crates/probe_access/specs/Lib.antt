@@ -20,6 +20,7 @@ pub mod RegisterRuns
 pub mod Scratches
 pub mod SingleSteps
 pub mod StepRuns
+pub mod Spent
 pub mod Stops
 pub mod RegisterAccess
 pub mod ReadRuns

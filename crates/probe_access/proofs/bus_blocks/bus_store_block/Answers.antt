@@ -1,4 +1,4 @@
-use Rattle.std.proofs.Common.{◌≡◌, ◌≢◌, ◌≤◌, ◌<◌, ℕ, subst, arith}
+use Rattle.std.proofs.Common.{◌≡◌, ◌≢◌, ◌≤◌, ◌<◌, ◌+◌, ◌-◌, ◌*◌, ℕ, subst, arith}
 use Rattle.debug_model.specs.Scan.{WhereTold}
 use Rattle.probe_run.specs.Told.{told}
 use Rattle.probe_access.specs.BusBlockRuns.{BusStores}
@@ -7,6 +7,16 @@ use Rattle.probe_access.proofs.BusStoreAwaitFaults.{await_causes, await_cut, awa
 use Rattle.probe_access.proofs.BusStoreAwaitTold.{stores_awaited}
 use Rattle.probe_access.proofs.BusStoreCauses.{fell_causes, fell_cut, fell_left, fell_ready, fell_refused, stores_heard}
 use Rattle.probe_access.proofs.BusStoreOutcomes.{stores_few, stores_told}
+use Rattle.probe_access.proofs.BusSpent.{
+  awaited_stores_failed,
+  awaited_stores_spent,
+  run_stores_spent,
+  stores_fell_spent,
+  unbroken_behind,
+  unbroken_more,
+  within_more,
+  within_then,
+}
 use Rattle.probe_access.proofs.RegisterCalls.{err_failed}
 use Rattle.probe_access.proofs.bus_blocks.bus_store_block.Goals as goal
 
@@ -160,3 +170,36 @@ returns-in_err-store_awaited-clause-ready_again g c =
     (stores_few c.args.size c.args.address c.args.value c.args.count c.in_ok-done.done (told (g.D.Dmi.seen c.args.link.now))
     (told (g.D.Dmi.seen c.store_run.new.link)) c.in_ok-done.ensures.stores) c.if-done-count.false)
     c.in_err-store_awaited.ensures.failed)
+
+pub returns-in_err-done-clause-few_failed : goal.returns-in_err-done-clause-few_failed
+returns-in_err-done-clause-few_failed g c =
+    err_failed c.from_residual.result c.in_err-done.field-0.0 _ c.from_residual.ensures.1
+    (unbroken_more (c.args.count + 9) (3 * c.args.count + 24) (told (g.D.Dmi.seen c.args.link.now)) (told (g.D.Dmi.seen c.store_run.new.link))
+    c.in_err-done.field-0.0 (omega arith)
+    (stores_fell_spent c.args.size c.args.address c.args.value c.args.count _ _ (told (g.D.Dmi.seen c.args.link.now))
+    (told (g.D.Dmi.seen c.store_run.new.link)) c.in_err-done.field-0.0 c.in_err-done.ensures.fell))
+
+pub returns-then-done-count-clause-few : goal.returns-then-done-count-clause-few
+returns-then-done-count-clause-few g c =
+    within_more (c.args.count + 9) (3 * c.args.count + 24) (told (g.D.Dmi.seen c.args.link.now)) (told (g.D.Dmi.seen c.store_run.new.link)) (omega arith)
+    (run_stores_spent c.args.size c.args.address c.args.value c.args.count c.in_ok-done.done (told (g.D.Dmi.seen c.args.link.now))
+    (told (g.D.Dmi.seen c.store_run.new.link)) c.in_ok-done.ensures.stores)
+
+pub returns-clause-few : goal.returns-clause-few
+returns-clause-few g c =
+    within_then (c.args.count + 9) ((c.args.count - c.in_ok-done.done) + 4) (3 * c.args.count + 24) (told (g.D.Dmi.seen c.args.link.now))
+    (told (g.D.Dmi.seen c.store_run.new.link)) (told (g.D.Dmi.seen c.store_awaited.new.link)) (omega arith)
+    (run_stores_spent c.args.size c.args.address c.args.value c.args.count c.in_ok-done.done (told (g.D.Dmi.seen c.args.link.now))
+    (told (g.D.Dmi.seen c.store_run.new.link)) c.in_ok-done.ensures.stores)
+    (awaited_stores_spent c.args.size c.args.address c.args.value c.in_ok-done.done c.args.count (told (g.D.Dmi.seen c.store_run.new.link))
+    (told (g.D.Dmi.seen c.store_awaited.new.link)) c.in_ok-store_awaited.ensures.stored)
+
+pub returns-in_err-store_awaited-clause-few_failed : goal.returns-in_err-store_awaited-clause-few_failed
+returns-in_err-store_awaited-clause-few_failed g c =
+    err_failed c.from_residual-in_err-store_awaited.result c.in_err-store_awaited.field-0.0 _ c.from_residual-in_err-store_awaited.ensures.1
+    (unbroken_behind (c.args.count + 9) ((c.args.count - c.in_ok-done.done) + 5) (3 * c.args.count + 24) (told (g.D.Dmi.seen c.args.link.now))
+    (told (g.D.Dmi.seen c.store_run.new.link)) (told (g.D.Dmi.seen c.store_awaited.new.link)) c.in_err-store_awaited.field-0.0 (omega arith)
+    (run_stores_spent c.args.size c.args.address c.args.value c.args.count c.in_ok-done.done (told (g.D.Dmi.seen c.args.link.now))
+    (told (g.D.Dmi.seen c.store_run.new.link)) c.in_ok-done.ensures.stores)
+    (awaited_stores_failed c.args.size c.args.address c.args.value c.in_ok-done.done c.args.count _ _ (told (g.D.Dmi.seen c.store_run.new.link))
+    (told (g.D.Dmi.seen c.store_awaited.new.link)) c.in_err-store_awaited.field-0.0 c.in_err-store_awaited.ensures.failed))
