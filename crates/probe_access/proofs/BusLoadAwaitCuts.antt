@@ -30,10 +30,9 @@ use Rattle.probe_access.specs.BusRuns.BusEnding.{at_poll, at_clear}
 use Rattle.probe_access.specs.BusRuns.BusPollBegun.{polls}
 use Rattle.probe_access.specs.BusRuns.Starting.{next}
 use Rattle.probe_access.specs.BusStreams.{DataReads, ReadingData, run_started, running}
-use Rattle.probe_access.specs.Cuts.{IfCut, LoadLeaves}
+use Rattle.probe_access.specs.Cuts.{BusLeftOff, IfCut, LoadLeaves}
 use Rattle.probe_access.specs.Faults.{Among, BrokeIn}
 use Rattle.probe_access.proofs.Along.{AtSites, ReadAt, SiteActs, did_sites}
-use Rattle.probe_access.proofs.BusBlockCutClauses.{handed_out}
 use Rattle.probe_access.proofs.BusCuts.{Nth, nth_of, write_cut}
 use Rattle.probe_access.proofs.BusCuts.Nth.{here, there}
 use Rattle.probe_access.proofs.BusLoadAwaits.{LoadEnd, lower_rests, lower_starts, polls_stand, stands_poll, stands_ran, upper_rests}
@@ -59,6 +58,17 @@ pub record LoadsCut (size : Size) (address count : ℕ) (values : List ℕ) (s :
   pub left : BusBlockLoadCut size address count values s (site_of far)
 
 -- ---- what each place leaves
+
+-- none was loaded that was not handed out
+handed_out : (size : Size) (address count : ℕ) (values : List ℕ) (s m t : Site) → length values < count → BusLoadedEach size address s values m
+    → BusLeftOff LoadLeaves m t → BusBlockLoadCut size address count values s t
+handed_out size address count values s m t below each left = record {
+  more = [];
+  below = subst (λ xs. length xs < count) (sym (append-nil values)) below;
+  mid = m;
+  each = subst (λ xs. BusLoadedEach size address s xs m) (sym (append-nil values)) each;
+  left = left;
+}
 
 loaded_cut : (size : Size) (address count : ℕ) (values : List ℕ) (v : ℕ) (u : BusUnit) (s first mid t : Site) → length values < count
     → BusLoadedEach size address s values first → BusLoadedOne size (element_at size address (length values)) v first mid → AtBus u mid t

@@ -1,4 +1,5 @@
 -- A run of loads by the system bus behind elements that were loaded before it.
+use Rattle.std.proofs.lemmas.Option.{none-some}
 use Rattle.std.proofs.Common.{◌≡◌, ◌∙◌, ◌≤◌, ◌<◌, ◌+◌, ◌-◌, ◌*◌, ◌++◌, ◌∷◌, ℕ, List, [], length, Option, Some, None, refl, sym, ap, subst, append_assoc, append-nil, length-append, arith}
 use Rattle.rv_model.specs.declared.size.Size.{Size}
 use Rattle.rv_model.specs.declared.size.Size.TheVariants.{B1, B2, B4, B8}
@@ -15,7 +16,6 @@ use Rattle.probe_access.specs.BusBlocks.{BusBlockLoadCut, BusBlockLoadLeft, BusB
 use Rattle.probe_access.specs.BusBlocks.BusLoadedEach.{nothing as none_loaded, further as loaded_further}
 use Rattle.probe_access.specs.BusStreams.{RunLoads}
 use Rattle.probe_access.specs.Cuts.{IfCut, IsLeft, Leaves}
-use Rattle.probe_access.proofs.BusBlockTold.{bus_loaded_none}
 use Rattle.probe_access.proofs.CutSites.{if_cut}
 
 -- ---- the addresses
@@ -80,6 +80,11 @@ stops_behind size address xs ys (Some f) mid new before more =
       each = each_behind size address (site_of f) xs (site_of before.far) before.each ys l.mid l.each;
       refused = subst (λ a. BusNotLoadedOne size a l.mid (site_of l.far)) (behind_place size address xs ys) l.refused;
     }
+
+bus_loaded_none : (size : Size) (address : ℕ) (values : List ℕ) (old mid : Option Far) → WhereTold (BusBlockLoadedAt size address values) old mid → mid ≡ None
+    → old ≡ None
+bus_loaded_none size address values None mid before none = refl
+bus_loaded_none size address values (Some f) mid before none = absurd (none-some before.far (sym none ∙ before.is))
 
 left_by : (size : Size) (address count : ℕ) (xs ys kept : List ℕ) (far mid new : Option Far) (e : AccessFault) → length xs ≤ count → count ≤ 512
     → (length xs + length ys ≤ 512 → kept ≡ xs ++ ys) → WhereTold (BusBlockLoadedAt size address xs) far mid

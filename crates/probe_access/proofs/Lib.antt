@@ -95,9 +95,7 @@ pub mod BlockCutClauses
 pub mod BusCuts
 pub mod BusCutClauses
 pub mod BusStartCuts
-pub mod BusBlockTold
 pub mod BusBlockCauses
-pub mod BusBlockCutClauses
 pub mod BusStreamUnits
 pub mod BusStreamSites
 pub mod BusStreamShown
