@@ -1,5 +1,5 @@
 -- The calls of accesses by the system bus that are awaited, one behind another.
-use Rattle.std.proofs.Common.{◌≡◌, ◌∙◌, ◌≤◌, ◌<◌, ◌+◌, ◌++◌, ℕ, List, [], ◌∷◌, length, true, false, sym, ap, subst, length-append, arith}
+use Rattle.std.proofs.Common.{◌≡◌, ◌∙◌, ◌≤◌, ◌+◌, ◌++◌, ℕ, List, [], ◌∷◌, length, true, false, sym, ap, subst, length-append, arith}
 use Rattle.rv_model.specs.declared.size.Size.{Size}
 use Rattle.debug_model.specs.Addresses.{sbcs_address, sbdata0_address}
 use Rattle.debug_model.specs.Commands.{low_half}
@@ -8,7 +8,7 @@ use Rattle.probe_access.specs.declared.fault.AccessFault.{AccessFault}
 use Rattle.probe_run.specs.Acts.{Did, Tells}
 use Rattle.probe_run.specs.Acts.Act.{Put}
 use Rattle.probe_access.specs.Blocks.{element_at}
-use Rattle.probe_access.specs.BusAwaits.{LoadLastFailed, LoadNextFailed, LoadedNext, LoadsAwaited, StoreNextFailed, StoredNext, StoresAwaited}
+use Rattle.probe_access.specs.BusAwaits.{LoadLastFailed, LoadNextFailed, LoadsAwaited, StoreNextFailed, StoredNext, StoresAwaited}
 use Rattle.probe_access.specs.BusRuns.{Starting, addressed}
 use Rattle.probe_access.specs.BusStoreStreams.{stores_started}
 use Rattle.probe_access.specs.BusStreams.{MoreRead, ReadingData, run_started, running}

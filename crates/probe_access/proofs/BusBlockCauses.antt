@@ -1,5 +1,5 @@
 -- What a fault of an access by the system bus follows, and the calls of a block with one element's more.
-use Rattle.std.proofs.Common.{◌≡◌, ◌≤◌, ◌<◌, ◌+◌, ◌++◌, ℕ, List, [], ◌∷◌, length, map, sym, subst, append_assoc, arith}
+use Rattle.std.proofs.Common.{◌≡◌, ◌≤◌, ◌++◌, ℕ, List, [], ◌∷◌, length, map, sym, subst, append_assoc, arith}
 use Rattle.rv_model.specs.declared.size.Size.{Size}
 use Rattle.debug_model.specs.Addresses.{sbcs_address}
 use Rattle.debug_model.specs.declared.dmi.DmiFault.{DmiFault}

@@ -1,5 +1,5 @@
 -- Where loads by the system bus that are each awaited broke off at a told chip: those that were read are handed out.
-use Rattle.std.proofs.Common.{◌≡◌, ◌⊎◌, ◌≤◌, ◌<◌, ◌+◌, ◌*◌, ◌++◌, ◌^◌, ℕ, List, [], ◌∷◌, length, map, Bool, true, false, Option, Some, None, refl, sym, subst, inl, inr, length-append, append-nil, append_assoc, arith}
+use Rattle.std.proofs.Common.{◌≡◌, ◌⊎◌, ◌≤◌, ◌<◌, ◌+◌, ◌*◌, ◌++◌, ◌^◌, ℕ, List, [], ◌∷◌, length, map, Bool, true, false, Option, Some, None, refl, sym, subst, inl, inr, append-nil, append_assoc, arith}
 use Rattle.rv_model.specs.declared.size.Size.{Size}
 use Rattle.rv_model.specs.declared.size.Size.TheVariants.{B1}
 use Rattle.rv_model.specs.Memory.{is_aligned}
@@ -19,20 +19,20 @@ use Rattle.debug_model.specs.SystemBus.{BusUnit}
 use Rattle.debug_model.specs.Told.{Far, SiteReady, site_of}
 use Rattle.probe_access.specs.declared.fault.AccessFault.{AccessFault}
 use Rattle.probe_access.specs.declared.fault.AccessFault.TheVariants as access_fault
-use Rattle.probe_run.specs.Acts.{Act, Attempt, Broke, Did, Tells}
+use Rattle.probe_run.specs.Acts.{Act, Attempt, Broke, Tells}
 use Rattle.probe_run.specs.Acts.Act.{Put}
 use Rattle.probe_run.specs.Acts.Attempt.{Operation}
 use Rattle.probe_run.specs.Opening.{clears_sberror}
 use Rattle.probe_access.specs.Blocks.{element_at}
 use Rattle.probe_access.specs.BusBlocks.{BusBlockLoadCut, BusLoadedEach, BusLoadedOne}
-use Rattle.probe_access.specs.BusRuns.{BusEndFailed, BusPollBegun, BusPolled, Starting, bus_error, bus_poll, outside_error}
+use Rattle.probe_access.specs.BusRuns.{BusEndFailed, BusPollBegun, Starting, bus_error, bus_poll, outside_error}
 use Rattle.probe_access.specs.BusRuns.BusEnding.{at_poll, at_clear}
 use Rattle.probe_access.specs.BusRuns.BusPollBegun.{polls}
 use Rattle.probe_access.specs.BusRuns.Starting.{next}
 use Rattle.probe_access.specs.BusStreams.{DataReads, ReadingData, run_started, running}
 use Rattle.probe_access.specs.Cuts.{BusLeftOff, IfCut, LoadLeaves}
 use Rattle.probe_access.specs.Faults.{Among, BrokeIn}
-use Rattle.probe_access.proofs.Along.{AtSites, ReadAt, SiteActs, did_sites}
+use Rattle.probe_access.proofs.Along.{AtSites, SiteActs, did_sites}
 use Rattle.probe_access.proofs.BusCuts.{Nth, nth_of, write_cut}
 use Rattle.probe_access.proofs.BusCuts.Nth.{here, there}
 use Rattle.probe_access.proofs.BusLoadAwaits.{LoadEnd, lower_rests, lower_starts, polls_stand, stands_poll, stands_ran, upper_rests}
@@ -43,7 +43,7 @@ use Rattle.probe_access.proofs.BusStages.{BusStage, start_bus}
 use Rattle.probe_access.proofs.BusStartCuts.{no_more}
 use Rattle.probe_access.proofs.BusStreamCuts.{bus_before, loaded_behind, refused_behind}
 use Rattle.probe_access.proofs.BusStreamOutcomes.{two_not_zero}
-use Rattle.probe_access.proofs.BusStreamSites.{Refusing, Resting, Stands, Waiting, at_ran, loaded_passed, refused_passed, resting_ran, stage_stands}
+use Rattle.probe_access.proofs.BusStreamSites.{Refusing, Resting, Stands, at_ran, loaded_passed, refused_passed, resting_ran, stage_stands}
 use Rattle.probe_access.proofs.BusStreamSites.Stands.{waiting as still_waiting, resting as was_loaded, refusing as was_refused}
 use Rattle.probe_access.proofs.BusStreamSteps.{start_set}
 use Rattle.probe_access.proofs.BusStreamTold.{element_aligned}

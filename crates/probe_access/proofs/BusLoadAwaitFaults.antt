@@ -1,30 +1,26 @@
 -- What a fault among loads by the system bus that are each awaited follows and leaves, behind others.
-use Rattle.std.proofs.Common.{◌≡◌, ◌≤◌, ◌<◌, ◌+◌, ◌*◌, ◌^◌, ℕ, List, [], ◌∷◌, length, true, false, Option, Some, None, refl, sym, subst, arith}
+use Rattle.std.proofs.Common.{◌≡◌, ◌≤◌, ◌<◌, ◌+◌, ◌*◌, ◌^◌, ℕ, List, length, true, Option, Some, None, sym, subst, arith}
 use Rattle.rv_model.specs.declared.size.Size.{Size}
 use Rattle.rv_model.specs.Memory.{is_aligned}
 use Rattle.rv_model.specs.Size.{count_of}
-use Rattle.debug_model.specs.Addresses.{sbcs_address}
 use Rattle.debug_model.specs.declared.dmi.DmiFault.{DmiFault}
-use Rattle.debug_model.specs.Module.{Site}
 use Rattle.debug_model.specs.Scan.{WhereTold}
-use Rattle.debug_model.specs.Told.{Far, IsReady, SiteReady, site_of}
+use Rattle.debug_model.specs.Told.{Far, IsReady, site_of}
 use Rattle.probe_access.specs.declared.fault.AccessFault.{AccessFault}
 use Rattle.probe_access.specs.declared.fault.AccessFault.TheVariants as access_fault
-use Rattle.probe_run.specs.Acts.{Did, Tells}
-use Rattle.probe_run.specs.Acts.Act.{Put}
+use Rattle.probe_run.specs.Acts.{Tells}
 use Rattle.probe_access.specs.Accesses.{IfMemory}
 use Rattle.probe_access.specs.Blocks.{element_at}
 use Rattle.probe_access.specs.BusAwaits.{AwaitedLoadsFailed, LoadLastFailed, LoadNextFailed, LoadsAwaited}
 use Rattle.probe_access.specs.BusAwaits.AwaitedLoadsFailed.{in_start, in_next, in_last}
 use Rattle.probe_access.specs.BusBlockRuns.{BusCauses, BusLoads, BusLoadsRefused}
 use Rattle.probe_access.specs.BusBlocks.{BusBlockLoadCut, BusBlockLoadLeft, BusBlockLoadedAt}
-use Rattle.probe_access.specs.BusRuns.{BusEndFailed, BusRefused}
-use Rattle.probe_access.specs.BusStreams.{running}
+use Rattle.probe_access.specs.BusRuns.{BusEndFailed}
 use Rattle.probe_access.specs.Cuts.{IfCut, Leaves}
 use Rattle.probe_access.proofs.BlockCauses.{Calls, calls, calls_then}
 use Rattle.probe_access.proofs.BusBlockCauses.{awaited_load_calls, bus_causes_behind, bus_loads_calls, end_causes, ended_calls, no_memory}
 use Rattle.probe_access.proofs.BusLoadAwaitCuts.{LoadsCut, ending_cut, last_cut, start_cut, stop_cut, words_cut}
-use Rattle.probe_access.proofs.BusLoadAwaitTold.{RefusedAt, StandsAt, load_oddly, load_refused, rests_at, stands_told, stops_at}
+use Rattle.probe_access.proofs.BusLoadAwaitTold.{RefusedAt, load_oddly, load_refused, rests_at, stands_told, stops_at}
 use Rattle.probe_access.proofs.CutSites.{cut_always, if_cut}
 
 -- ---- its cause

@@ -1,5 +1,5 @@
 -- What loads by the system bus that are each awaited come to at a told chip, behind others.
-use Rattle.std.proofs.Common.{◌≡◌, ◌≢◌, ◌⊎◌, ◌≤◌, ◌<◌, ◌+◌, ◌*◌, ◌++◌, ◌^◌, ℕ, List, [], ◌∷◌, length, map, true, false, Option, Some, None, refl, sym, subst, length-append, ap, arith}
+use Rattle.std.proofs.Common.{◌≡◌, ◌≢◌, ◌⊎◌, ◌≤◌, ◌<◌, ◌+◌, ◌*◌, ◌++◌, ◌^◌, ℕ, List, [], ◌∷◌, length, map, true, false, Option, Some, None, refl, sym, subst, arith}
 use Rattle.rv_model.specs.declared.size.Size.{Size}
 use Rattle.rv_model.specs.Memory.{is_aligned}
 use Rattle.rv_model.specs.Size.{count_of}
@@ -11,7 +11,7 @@ use Rattle.probe_run.specs.Acts.{Did, Tells}
 use Rattle.probe_run.specs.Acts.Act.{Put}
 use Rattle.probe_run.specs.Opening.{clears_sberror}
 use Rattle.probe_access.specs.Blocks.{element_at}
-use Rattle.probe_access.specs.BusAwaits.{AllAwaited, LoadedLast, LoadedNext, LoadsAwaited}
+use Rattle.probe_access.specs.BusAwaits.{AllAwaited, LoadsAwaited}
 use Rattle.probe_access.specs.BusBlocks.{BusBlockLoadRefused, BusBlockLoadedAt, BusLoadedEach}
 use Rattle.probe_access.specs.BusRuns.{BusEnded, BusPolled, BusRefused, bus_collided, bus_error, bus_poll, outside_error}
 use Rattle.probe_access.specs.BusStreams.{MoreRead, run_started, running}

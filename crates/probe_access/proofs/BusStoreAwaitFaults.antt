@@ -1,14 +1,13 @@
 -- What a fault among stores by the system bus that are each awaited follows and leaves, behind others.
-use Rattle.std.proofs.Common.{◌≡◌, ◌≤◌, ◌<◌, ◌+◌, ◌*◌, ◌^◌, ℕ, [], ◌∷◌, true, Option, Some, None, refl, sym, subst, arith}
+use Rattle.std.proofs.Common.{◌≡◌, ◌≤◌, ◌<◌, ◌+◌, ◌*◌, ◌^◌, ℕ, [], ◌∷◌, true, Option, Some, None, sym, subst, arith}
 use Rattle.rv_model.specs.declared.size.Size.{Size}
 use Rattle.rv_model.specs.Memory.{is_aligned}
 use Rattle.rv_model.specs.Size.{count_of}
 use Rattle.debug_model.specs.Addresses.{sbdata0_address}
 use Rattle.debug_model.specs.Commands.{low_half}
 use Rattle.debug_model.specs.declared.dmi.DmiFault.{DmiFault}
-use Rattle.debug_model.specs.Module.{Site}
 use Rattle.debug_model.specs.Scan.{WhereTold}
-use Rattle.debug_model.specs.Told.{Far, IsReady, SiteReady, site_of}
+use Rattle.debug_model.specs.Told.{Far, IsReady, site_of}
 use Rattle.probe_access.specs.declared.fault.AccessFault.{AccessFault}
 use Rattle.probe_access.specs.declared.fault.AccessFault.TheVariants as access_fault
 use Rattle.probe_run.specs.Acts.{Did, Tells}
@@ -20,12 +19,12 @@ use Rattle.probe_access.specs.BusAwaits.AwaitedStoresFailed.{in_start, in_next}
 use Rattle.probe_access.specs.BusAwaits.StoreNextFailed.{in_put, in_end}
 use Rattle.probe_access.specs.BusBlockRuns.{BusCauses, BusStores, BusStoresRefused}
 use Rattle.probe_access.specs.BusBlocks.{BusBlockStoreCut, BusBlockStoreLeft, BusBlockStoredAt}
-use Rattle.probe_access.specs.BusRuns.{BusEndFailed, BusRefused}
+use Rattle.probe_access.specs.BusRuns.{BusEndFailed}
 use Rattle.probe_access.specs.Cuts.{IfCut, Leaves}
-use Rattle.probe_access.proofs.BlockCauses.{Calls, calls, calls_then}
+use Rattle.probe_access.proofs.BlockCauses.{calls}
 use Rattle.probe_access.proofs.BusBlockCauses.{awaited_store_calls, bus_causes_behind, bus_stores_calls, end_causes, no_memory}
 use Rattle.probe_access.proofs.BusStoreAwaitCuts.{asking_cut, ending_cut, started_cut}
-use Rattle.probe_access.proofs.BusStoreAwaitTold.{RefusedAt, StillAt, WentAt, store_oddly, store_refused, still_told, went_at}
+use Rattle.probe_access.proofs.BusStoreAwaitTold.{RefusedAt, store_oddly, store_refused, still_told, went_at}
 use Rattle.probe_access.proofs.BusStoreCuts.{StoresCut, cut_left}
 use Rattle.probe_access.proofs.CutSites.{cut_always, if_cut}
 

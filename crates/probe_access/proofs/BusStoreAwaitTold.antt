@@ -1,35 +1,23 @@
 -- What stores by the system bus that are each awaited come to, behind others: at a told chip, where they broke off, and what their faults follow.
-use Rattle.std.proofs.Common.{◌≡◌, ◌≢◌, ◌⊎◌, ◌∙◌, ◌≤◌, ◌<◌, ◌+◌, ◌*◌, ◌++◌, ◌^◌, ℕ, List, [], ◌∷◌, map, true, false, Option, Some, None, refl, sym, subst, inl, inr, arith}
+use Rattle.std.proofs.Common.{◌≡◌, ◌≢◌, ◌⊎◌, ◌≤◌, ◌<◌, ◌+◌, ◌*◌, ◌++◌, ◌^◌, ℕ, [], ◌∷◌, map, true, false, Option, Some, None, refl, sym, subst, arith}
 use Rattle.rv_model.specs.declared.size.Size.{Size}
 use Rattle.rv_model.specs.Memory.{is_aligned}
 use Rattle.rv_model.specs.Size.{count_of}
-use Rattle.debug_model.specs.Addresses.{sbaddress0_address, sbaddress1_address, sbcs_address, sbdata0_address, sbdata1_address}
-use Rattle.debug_model.specs.Commands.{high_half, low_half}
-use Rattle.debug_model.specs.declared.dmi.DmiFault.{DmiFault}
-use Rattle.debug_model.specs.declared.dmi_op.DmiOp.TheVariants.{Read, Write}
-use Rattle.debug_model.specs.Deeds.{ran}
-use Rattle.debug_model.specs.Dmi.{SiteCut}
-use Rattle.debug_model.specs.Dmi.SiteCut.{unperformed, was_performed}
-use Rattle.debug_model.specs.Module.{Site, operated}
+use Rattle.debug_model.specs.Addresses.{sbcs_address, sbdata0_address}
+use Rattle.debug_model.specs.Commands.{low_half}
+use Rattle.debug_model.specs.Module.{Site}
 use Rattle.debug_model.specs.Scan.{WhereTold}
-use Rattle.debug_model.specs.SystemBus.{BusUnit}
 use Rattle.debug_model.specs.Told.{Far, IsReady, SiteReady, site_of}
-use Rattle.probe_access.specs.declared.fault.AccessFault.{AccessFault}
-use Rattle.probe_access.specs.declared.fault.AccessFault.TheVariants as access_fault
-use Rattle.probe_run.specs.Acts.{Act, Attempt, Broke, Did, Tells}
+use Rattle.probe_run.specs.Acts.{Did, Tells}
 use Rattle.probe_run.specs.Acts.Act.{Put}
-use Rattle.probe_run.specs.Acts.Attempt.{Operation}
 use Rattle.probe_run.specs.Opening.{clears_sberror}
 use Rattle.probe_access.specs.Blocks.{element_at}
-use Rattle.probe_access.specs.BusAwaits.{StoreNextFailed, StoredNext, StoresAwaited}
-use Rattle.probe_access.specs.BusBlocks.{BusBlockStoreCut, BusBlockStoreRefused, BusBlockStoredAt, BusStoredEach}
-use Rattle.probe_access.specs.BusRuns.{BusEnded, BusPolled, BusRefused, Starting, bus_collided, bus_error, bus_poll, outside_error}
-use Rattle.probe_access.specs.BusRuns.Starting.{next}
-use Rattle.probe_access.specs.BusStoreStreams.{stores_started, storing}
-use Rattle.probe_access.specs.Cuts.{BusBefore}
-use Rattle.probe_access.specs.Cuts.BusLeftOff.{before_it}
-use Rattle.probe_access.proofs.Along.{AtSites, SiteActs, did_sites, did_untold}
-use Rattle.probe_access.proofs.BusStoreAwaits.{WentEnd, polls_ended, polls_went, put_went, refused_cleared}
+use Rattle.probe_access.specs.BusAwaits.{StoresAwaited}
+use Rattle.probe_access.specs.BusBlocks.{BusBlockStoreRefused, BusBlockStoredAt, BusStoredEach}
+use Rattle.probe_access.specs.BusRuns.{BusPolled, BusRefused, bus_collided, bus_error, bus_poll, outside_error}
+use Rattle.probe_access.specs.BusStoreStreams.{stores_started}
+use Rattle.probe_access.proofs.Along.{AtSites, did_sites, did_untold}
+use Rattle.probe_access.proofs.BusStoreAwaits.{WentEnd, polls_ended, put_went, refused_cleared}
 use Rattle.probe_access.proofs.BusStoreEnds.{NextRefused, still_stored}
 use Rattle.probe_access.proofs.BusStoreOutcomes.{StoresTold, told_stored, untold_stored}
 use Rattle.probe_access.proofs.BusStoreSites.{Still, Went}

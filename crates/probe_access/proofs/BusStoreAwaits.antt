@@ -1,5 +1,5 @@
 -- Stores by the system bus that are each awaited, at a told chip: an element is stored, or memory refused it.
-use Rattle.std.proofs.Common.{◌≡◌, ◌∙◌, ◌≤◌, ◌<◌, ◌+◌, ◌*◌, ◌++◌, ◌^◌, ◌%◌, ℕ, List, [], ◌∷◌, map, true, false, None, refl, sym, ap, subst, arith}
+use Rattle.std.proofs.Common.{◌≡◌, ◌∙◌, ◌≤◌, ◌<◌, ◌+◌, ◌*◌, ◌++◌, ◌^◌, ◌%◌, ℕ, List, [], ◌∷◌, map, true, false, None, refl, sym, ap, subst}
 use Rattle.std.proofs.lemmas.Bool.{false≢true}
 use Rattle.rv_model.specs.declared.size.Size.{Size}
 use Rattle.rv_model.specs.declared.size.Size.TheVariants.{B1}
@@ -21,7 +21,7 @@ use Rattle.probe_access.proofs.Along.{SiteActs}
 use Rattle.probe_access.proofs.BusSites.{AtBus, put_bus}
 use Rattle.probe_access.proofs.BusSites.Writes.{to_sbcs}
 use Rattle.probe_access.proofs.BusStoreEnds.{NextRefused, still_poll, storing_poll, unstored_passed, unstored_poll}
-use Rattle.probe_access.proofs.BusStoreSites.{Still, Storing, Unstored, Went, still_ran, storing_ran, unstored_ran}
+use Rattle.probe_access.proofs.BusStoreSites.{Still, Unstored, Went, still_ran, storing_ran, unstored_ran}
 use Rattle.probe_access.proofs.BusStoreSteps.{still_put}
 use Rattle.probe_access.proofs.BusStoreUnits.{still_bus, still_shown, unstored_bus, unstored_cleared, unstored_shown, writing, writing_shown}
 use Rattle.probe_access.proofs.BusStreamEnds.{shows_of}

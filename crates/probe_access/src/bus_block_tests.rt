@@ -99,16 +99,28 @@ fn goes_on_behind_a_word_that_was_read_too_early(rt: HostRuntime) {
 fn awaits_each_double_behind_a_word_that_was_read_too_early(rt: HostRuntime) {
     let mut into = ArrayVec::new();
     // two in a run, of which the first was loaded; the second is awaited, and its upper word read first
-    let words: [u32; 14] = [7, 7, 7, 7, EARLY, 0, 0x8000_0018, 2, 1, BUSY, BUSY, IDLE, 4, 3];
+    let words: [u32; 14] = [
+        7,
+        7,
+        7,
+        7,
+        EARLY,
+        0,
+        0x8000_0018,
+        2,
+        1,
+        BUSY,
+        BUSY,
+        IDLE,
+        4,
+        3,
+    ];
     let mut link = answering(&words);
     assert_eq!(rt;
         bus_load_block(&mut link, Size::B8, PLACE, 2, &mut into),
         Ok(())
     );
-    assert_eq!(rt;
-        into.as_slice(),
-        [0x2_0000_0001, 0x4_0000_0003].as_slice()
-    );
+    assert_eq!(rt; into.as_slice(), [0x2_0000_0001, 0x4_0000_0003].as_slice());
     // an error that no access awaited can end with
     into.clear();
     let mut odd = answering(&[7, 7, 7, 7, EARLY, 0, 0x8000_0018, 2, 1, EARLY]);

@@ -75,7 +75,11 @@ pub fn load_awaited<D: Dmi>(
     ensures keeps { Keeps access_why (D.seen link.old) (D.seen link.new) result }
 {
     let done = into.len() as u16;
-    set_up(link, running_of(true, size), element(size, address, done, count))?;
+    set_up(
+        link,
+        running_of(true, size),
+        element(size, address, done, count),
+    )?;
     'elements: for number in done..count - 1 {
         let at = element(size, address, number, count);
         load_next(link, size, at, into)?;

@@ -1,4 +1,4 @@
-use Rattle.std.proofs.Common.{◌≡◌, ◌≢◌, ◌∙◌, ◌≤◌, ◌<◌, ◌+◌, ◌-◌, ◌*◌, ℕ, List, length, arith}
+use Rattle.std.proofs.Common.{◌≢◌, ◌∙◌, ◌≤◌, ◌<◌, ◌+◌, ◌-◌, ◌*◌, ℕ, List, length, arith}
 use Rattle.probe_run.specs.Told.{told}
 use Rattle.probe_access.specs.BusBlockRuns.{BusLoads}
 use Rattle.probe_access.proofs.BusLoadAwaitFaults.{await_causes, await_cut, await_left, await_ready, await_refused}

@@ -1,4 +1,4 @@
-use Rattle.std.proofs.Common.{◌≡◌, ◌≢◌, ◌≤◌, ◌<◌, ◌+◌, ◌-◌, ◌*◌, ℕ, subst, arith}
+use Rattle.std.proofs.Common.{◌≢◌, ◌≤◌, ◌<◌, ◌+◌, ◌-◌, ◌*◌, ℕ, subst, arith}
 use Rattle.debug_model.specs.Scan.{WhereTold}
 use Rattle.probe_run.specs.Told.{told}
 use Rattle.probe_access.specs.BusBlockRuns.{BusStores}

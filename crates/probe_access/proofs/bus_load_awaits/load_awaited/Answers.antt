@@ -1,4 +1,4 @@
-use Rattle.std.proofs.Common.{◌≡◌, ◌∙◌, ◌<◌, ◌+◌, ◌-◌, ℕ, List, length, refl, sym, ap, subst, arith}
+use Rattle.std.proofs.Common.{◌≡◌, ◌∙◌, ◌+◌, ◌-◌, length, refl, sym, ap, subst, arith}
 use Rattle.probe_run.specs.Told.{told}
 use Rattle.probe_access.specs.Blocks.{element_at}
 use Rattle.probe_access.specs.BusAwaits.{AwaitedLoadsFailed, LoadsAwaited}
