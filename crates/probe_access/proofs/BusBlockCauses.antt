@@ -1,5 +1,5 @@
 -- What a fault of an access by the system bus follows, and the calls of a block with one element's more.
-use Rattle.std.proofs.Common.{◌≡◌, ◌≤◌, ◌<◌, ◌+◌, ◌++◌, ℕ, List, [], ◌∷◌, length, map, sym, subst, append_assoc, arith}
+use Rattle.std.proofs.Common.{◌≡◌, ◌≤◌, ◌++◌, ℕ, List, [], ◌∷◌, length, map, sym, subst, append_assoc, arith}
 use Rattle.rv_model.specs.declared.size.Size.{Size}
 use Rattle.debug_model.specs.Addresses.{sbcs_address}
 use Rattle.debug_model.specs.declared.dmi.DmiFault.{DmiFault}
@@ -12,16 +12,11 @@ use Rattle.probe_run.specs.Opening.{clears_sberror}
 use Rattle.probe_run.proofs.ActLemmas.{broke_then, did_list, did_then}
 use Rattle.probe_access.specs.Accesses.{IfMemory}
 use Rattle.probe_access.specs.Blocks.{element_at}
-use Rattle.probe_access.specs.BusBlockRuns.{BusCauses, BusLoads, BusLoadsRefused, BusReported, BusStores, BusStoresRefused}
-use Rattle.probe_access.specs.BusBlockRuns.BusLoads.{alone as loaded_alone}
-use Rattle.probe_access.specs.BusBlockRuns.BusLoadsRefused.{alone as load_alone}
-use Rattle.probe_access.specs.BusBlockRuns.BusStores.{alone as stored_alone}
-use Rattle.probe_access.specs.BusBlockRuns.BusStoresRefused.{alone as store_alone}
-use Rattle.probe_access.specs.BusRuns.{BusEndFailed, BusEnded, BusLoadFailed, BusLoaded, BusPolled, BusRefused, BusStoreFailed, BusStored, bus_poll, read_started, write_started}
+use Rattle.probe_access.specs.BusAwaits.{AllAwaited, LoadsAwaited, StoresAwaited}
+use Rattle.probe_access.specs.BusBlockRuns.{BusCauses, BusLoads, BusReported, BusStores}
+use Rattle.probe_access.specs.BusRuns.{BusEndFailed, BusEnded, BusPolled, BusRefused, bus_poll}
 use Rattle.probe_access.specs.BusRuns.BusEnding.{at_poll, at_clear}
-use Rattle.probe_access.specs.BusRuns.BusLoadFailed.{in_start as load_start, in_end as load_end, in_fetch as load_fetch}
-use Rattle.probe_access.specs.BusRuns.BusStoreFailed.{in_start as store_start, in_end as store_end}
-use Rattle.probe_access.specs.BusStreams.{Ran, RanThrough, Stopped}
+use Rattle.probe_access.specs.BusStreams.{Ran, RanThrough, RunLoads, Stopped}
 use Rattle.probe_access.proofs.BlockCauses.{Calls, calls, calls_then}
 
 -- ---- a fault behind more calls
@@ -60,7 +55,7 @@ bus_causes_behind a b c p count mid_count new_count (access_fault.Odd shown) le 
 pub polled_calls : (last : ℕ) (a b : Tells) → BusPolled last a b → Calls a b
 polled_calls last a b p = calls _ a b p.did
 
-ended_calls : (a b : Tells) → BusEnded a b → Calls a b
+pub ended_calls : (a b : Tells) → BusEnded a b → Calls a b
 ended_calls a b e = polled_calls e.last a b e.polled
 
 refused_reported : (a c : Tells) → BusRefused a c → BusReported a c
@@ -76,7 +71,7 @@ refused_reported a c r = record {
       (did_then (map bus_poll r.polled.words ++ bus_poll r.last ∷ []) a r.mid r.polled.did (Put sbcs_address clears_sberror ∷ []) c r.cleared);
 }
 
-end_causes : (address old_count new_count : ℕ) (a c : Tells) (e : AccessFault) → old_count ≤ new_count → BusEndFailed address old_count new_count a c e
+pub end_causes : (address old_count new_count : ℕ) (a c : Tells) (e : AccessFault) → old_count ≤ new_count → BusEndFailed address old_count new_count a c e
     → BusCauses old_count new_count a c e
 end_causes address old_count new_count a c (access_fault.Dmi why) later (at_poll b) = (b.acts, b.failed, b.broke)
 end_causes address old_count new_count a c (access_fault.Dmi why) later (at_clear last mid polled outside b) =
@@ -96,32 +91,7 @@ end_causes address old_count new_count a c (access_fault.Odd shown) later f = re
   did = f.polled.did;
 }
 
-pub bus_load_causes : (size : Size) (address old_count new_count : ℕ) (a c : Tells) (e : AccessFault) → old_count ≤ new_count
-    → BusLoadFailed size address old_count new_count a c e → BusCauses old_count new_count a c e
-bus_load_causes size address old_count new_count a c e later (load_start why is b) =
-    subst (λ (x : AccessFault). BusCauses old_count new_count a c x) (sym is) (b.acts, b.failed, b.broke)
-bus_load_causes size address old_count new_count a c e later (load_end started did f) =
-    bus_causes_behind a started c (calls _ a started did) old_count old_count new_count e (omega arith) later
-    (end_causes address old_count new_count started c e later f)
-bus_load_causes size address old_count new_count a c e later (load_fetch started ended did ends why is b) =
-    subst (λ (x : AccessFault). BusCauses old_count new_count a c x) (sym is)
-    (bus_causes_behind a ended c (calls_then a started ended (calls _ a started did) (ended_calls started ended ends)) old_count old_count new_count
-    (access_fault.Dmi why) (omega arith) later (b.acts, b.failed, b.broke))
-
-pub bus_store_causes : (size : Size) (address value old_count new_count : ℕ) (a c : Tells) (e : AccessFault) → old_count ≤ new_count
-    → BusStoreFailed size address value old_count new_count a c e → BusCauses old_count new_count a c e
-bus_store_causes size address value old_count new_count a c e later (store_start why is b) =
-    subst (λ (x : AccessFault). BusCauses old_count new_count a c x) (sym is) (b.acts, b.failed, b.broke)
-bus_store_causes size address value old_count new_count a c e later (store_end started did f) =
-    bus_causes_behind a started c (calls _ a started did) old_count old_count new_count e (omega arith) later
-    (end_causes address old_count new_count started c e later f)
-
 -- ---- the calls of loads
-
-pub bus_loaded_calls : (size : Size) (address value : ℕ) (a b : Tells) → BusLoaded size address value a b → Calls a b
-bus_loaded_calls size address value a b l =
-    calls_then a l.ended b (calls_then a l.started l.ended (calls _ a l.started l.starts) (ended_calls l.started l.ended l.ends))
-    (calls _ l.ended b l.fetched.did)
 
 pub ran_calls : (size : Size) (address : ℕ) (read : List ℕ) (old new : Tells) → Ran size address read old new → Calls old new
 ran_calls size address read old new r =
@@ -139,66 +109,47 @@ stopped_calls size address count last values old new s =
     (calls_then old s.ran s.polled (ran_calls size address s.read old s.ran s.runs) (polled_calls last s.ran s.polled s.shows))
     (calls _ s.polled new s.found)
 
+run_loads_calls : (size : Size) (address count : ℕ) (values : List ℕ) (a b : Tells) → RunLoads size address count values a b → Calls a b
+run_loads_calls size address count values a b (RunLoads.all all r) = through_calls size address values a b r
+run_loads_calls size address count values a b (RunLoads.some last s fine early) = stopped_calls size address count last values a b s
+
+pub awaited_load_calls : (size : Size) (address : ℕ) (was : List ℕ) (a : Tells) (values : List ℕ) (b : Tells) → LoadsAwaited size address was a values b
+    → Calls a b
+awaited_load_calls size address was a _ b (LoadsAwaited.begun _ did) = calls _ a b did
+awaited_load_calls size address was a _ b (LoadsAwaited.next values more mid _ s one) =
+    calls_then a mid b (awaited_load_calls size address was a values mid s)
+    (calls_then mid one.ended b (ended_calls mid one.ended one.ends) (calls _ one.ended b one.read.did))
+
+all_awaited_calls : (size : Size) (address count : ℕ) (was is : List ℕ) (a b : Tells) → AllAwaited size address count was is a b → Calls a b
+all_awaited_calls size address count was is a b w =
+    calls_then a w.mid b (awaited_load_calls size address was a w.front w.mid w.awaited)
+    (calls_then w.mid w.last.stopped b
+    (calls_then w.mid w.last.ended w.last.stopped (ended_calls w.mid w.last.ended w.last.ends) (calls _ w.last.ended w.last.stopped w.last.stops))
+    (calls _ w.last.stopped b w.last.read.did))
+
 pub bus_loads_calls : (size : Size) (address : ℕ) (a : Tells) (values : List ℕ) (b : Tells) → BusLoads size address a values b → Calls a b
-bus_loads_calls size address a _ b BusLoads.nothing = calls [] a b nothing
-bus_loads_calls size address a _ b (loaded_alone values value mid _ l one) =
-    calls_then a mid b (bus_loads_calls size address a values mid l) (bus_loaded_calls size (element_at size address (length values)) value mid b one)
-bus_loads_calls size address a _ b (BusLoads.ran values _ r) = through_calls size address values a b r
-bus_loads_calls size address a _ b (BusLoads.ran_on count last values _ s fine early) = stopped_calls size address count last values a b s
+bus_loads_calls size address a _ b (BusLoads.ran count values _ r) = run_loads_calls size address count values a b r
+bus_loads_calls size address a _ b (BusLoads.ran_behind count first more mid _ s r) =
+    calls_then a mid b (bus_loads_calls size address a first mid s) (run_loads_calls size (element_at size address (length first)) count more mid b r)
+bus_loads_calls size address a _ b (BusLoads.awaited count first values mid _ s w) =
+    calls_then a mid b (bus_loads_calls size address a first mid s) (all_awaited_calls size address count first values mid b w)
 
-pub bus_loads_more : (size : Size) (address at value : ℕ) (values : List ℕ) (old mid new : Tells) → at ≡ element_at size address (length values)
-    → BusLoads size address old values mid → BusLoaded size at value mid new → BusLoads size address old (values ++ value ∷ []) new
-bus_loads_more size address at value values old mid new is loads one =
-    loaded_alone values value mid new loads (subst (λ a. BusLoaded size a value mid new) is one)
-
-ended_refused : (P : Type 0) (address old_count new_count : ℕ) (a c : Tells) (e : AccessFault) → (BusRefused a c → P)
-    → BusEndFailed address old_count new_count a c e → IfMemory P e
-ended_refused P address old_count new_count a c (access_fault.Dmi why) f b = tt
-ended_refused P address old_count new_count a c (access_fault.Memory at) f b = f b.1
-ended_refused P address old_count new_count a c (access_fault.Register number) f b = tt
-ended_refused P address old_count new_count a c access_fault.StillBusy f b = tt
-ended_refused P address old_count new_count a c (access_fault.Run why) f b = tt
-ended_refused P address old_count new_count a c (access_fault.Odd shown) f b = tt
-
-no_memory : (P : Type 0) (e : AccessFault) (why : DmiFault) → e ≡ access_fault.Dmi why → IfMemory P e
+pub no_memory : (P : Type 0) (e : AccessFault) (why : DmiFault) → e ≡ access_fault.Dmi why → IfMemory P e
 no_memory P e why is = subst (λ (x : AccessFault). IfMemory P x) (sym is) tt
-
-pub bus_loads_stop : (size : Size) (address at old_count new_count : ℕ) (values : List ℕ) (old mid new : Tells) (e : AccessFault)
-    → at ≡ element_at size address (length values) → BusLoads size address old values mid → BusLoadFailed size at old_count new_count mid new e
-    → IfMemory (BusLoadsRefused size address values old new) e
-bus_loads_stop size address at old_count new_count values old mid new e is loads (load_start why dmi b) =
-    no_memory (BusLoadsRefused size address values old new) e why dmi
-bus_loads_stop size address at old_count new_count values old mid new e is loads (load_end started did f) =
-    ended_refused (BusLoadsRefused size address values old new) at old_count new_count started new e
-    (λ r. load_alone mid started loads (subst (λ a. Did mid (read_started size a) started) is did) r) f
-bus_loads_stop size address at old_count new_count values old mid new e is loads (load_fetch started ended did ends why dmi b) =
-    no_memory (BusLoadsRefused size address values old new) e why dmi
 
 -- ---- and of stores
 
-pub bus_stored_calls : (size : Size) (address value : ℕ) (a b : Tells) → BusStored size address value a b → Calls a b
-bus_stored_calls size address value a b l = calls_then a l.started b (calls _ a l.started l.starts) (ended_calls l.started b l.ends)
+pub awaited_store_calls : (size : Size) (address value from : ℕ) (a : Tells) (n : ℕ) (b : Tells) → StoresAwaited size address value from a n b → Calls a b
+awaited_store_calls size address value from a _ b (StoresAwaited.begun _ did) = calls _ a b did
+awaited_store_calls size address value from a _ b (StoresAwaited.next n mid _ s one) =
+    calls_then a mid b (awaited_store_calls size address value from a n mid s)
+    (calls_then mid one.asked b (calls _ mid one.asked one.put) (ended_calls one.asked b one.ends))
 
 pub bus_stores_calls : (size : Size) (address value : ℕ) (a : Tells) (n : ℕ) (b : Tells) → BusStores size address value a n b → Calls a b
-bus_stores_calls size address value a _ b BusStores.nothing = calls [] a b nothing
-bus_stores_calls size address value a _ b (stored_alone n mid _ l one) =
-    calls_then a mid b (bus_stores_calls size address value a n mid l) (bus_stored_calls size (element_at size address n) value mid b one)
 bus_stores_calls size address value a _ b (BusStores.ran count _ r) = calls_then a r.mid b (calls _ a r.mid r.asked) (ended_calls r.mid b r.ends)
 bus_stores_calls size address value a _ b (BusStores.ran_on count last done _ s fine early) =
     calls_then a s.polled b
     (calls_then a s.shows.mid s.polled (calls _ a s.shows.mid s.shows.asked) (polled_calls last s.shows.mid s.polled s.shows.polled))
     (calls _ s.polled b s.found.did)
-
-pub bus_stores_more : (size : Size) (address at value done : ℕ) (old mid new : Tells) → at ≡ element_at size address done
-    → BusStores size address value old done mid → BusStored size at value mid new → BusStores size address value old (done + 1) new
-bus_stores_more size address at value done old mid new is stores one =
-    stored_alone done mid new stores (subst (λ a. BusStored size a value mid new) is one)
-
-pub bus_stores_stop : (size : Size) (address at value count done old_count new_count : ℕ) (old mid new : Tells) (e : AccessFault)
-    → at ≡ element_at size address done → done < count → BusStores size address value old done mid
-    → BusStoreFailed size at value old_count new_count mid new e → IfMemory (BusStoresRefused size address value count old new) e
-bus_stores_stop size address at value count done old_count new_count old mid new e is below stores (store_start why dmi b) =
-    no_memory (BusStoresRefused size address value count old new) e why dmi
-bus_stores_stop size address at value count done old_count new_count old mid new e is below stores (store_end started did f) =
-    ended_refused (BusStoresRefused size address value count old new) at old_count new_count started new e
-    (λ r. store_alone done mid started below stores (subst (λ a. Did mid (write_started size a value) started) is did) r) f
+bus_stores_calls size address value a _ b (BusStores.awaited from n mid _ s w) =
+    calls_then a mid b (bus_stores_calls size address value a from mid s) (awaited_store_calls size address value from mid n b w)

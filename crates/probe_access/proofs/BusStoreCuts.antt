@@ -83,13 +83,13 @@ refused_behind size address value s t one = behind_it (record {
 })
 
 -- turns alone passed since so many were stored
-alone_cut : (size : Size) (address value count n : ℕ) (u : BusUnit) (s mid t : Site) → n < count → BusStoredEach size address value s n mid → AtBus u mid t
+pub alone_cut : (size : Size) (address value count n : ℕ) (u : BusUnit) (s mid t : Site) → n < count → BusStoredEach size address value s n mid → AtBus u mid t
     → BusBlockStoreCut size address value count s t
 alone_cut size address value count n u s mid t below each at =
     record { done = n; below = below; mid = mid; each = each; left = before_it (turns_alone u mid t at) }
 
 -- these may be all
-stored_cut : (size : Size) (address value count n : ℕ) (u : BusUnit) (s mid t : Site) → n ≤ count → 0 < count → BusStoredEach size address value s n mid
+pub stored_cut : (size : Size) (address value count n : ℕ) (u : BusUnit) (s mid t : Site) → n ≤ count → 0 < count → BusStoredEach size address value s n mid
     → AtBus u mid t → BusBlockStoreCut size address value count s t
 stored_cut size address value count _ u s _ t within some none_stored at = alone_cut size address value count 0 u s s t some none_stored at
 stored_cut size address value count _ u s mid t within some (stored_further n m _ each one) at = record {
@@ -100,7 +100,7 @@ stored_cut size address value count _ u s mid t within some (stored_further n m 
   left = stored_behind size (element_at size address n) value m t (stored_passed size (element_at size address n) value m mid u t one at);
 }
 
-unstored_cut : (size : Size) (address value count n : ℕ) (u : BusUnit) (s first mid t : Site) → n < count → BusStoredEach size address value s n first
+pub unstored_cut : (size : Size) (address value count n : ℕ) (u : BusUnit) (s first mid t : Site) → n < count → BusStoredEach size address value s n first
     → BusNotStoredOne size (element_at size address n) first mid → AtBus u mid t → BusBlockStoreCut size address value count s t
 unstored_cut size address value count n u s first mid t below each refused at = record {
   done = n;
@@ -110,7 +110,7 @@ unstored_cut size address value count n u s first mid t below each refused at = 
   left = refused_behind size (element_at size address n) value first t (unstored_passed size (element_at size address n) first mid u t refused at);
 }
 
-asked_cut : (size : Size) (address value count : ℕ) (s : Site) (k : ℕ) (t : Site) → k ≤ count → 0 < count → Asked size address value count s k t
+pub asked_cut : (size : Size) (address value count : ℕ) (s : Site) (k : ℕ) (t : Site) → k ≤ count → 0 < count → Asked size address value count s k t
     → BusBlockStoreCut size address value count s t
 asked_cut size address value count s k t within some (Asked.writes n is w) =
     alone_cut size address value count n (writing size (element_at size address n) value false) s w.mid t (omega (arith, within, is)) w.each w.at
@@ -131,7 +131,7 @@ either_cut : (size : Size) (address value count : ℕ) (u x : BusUnit) (s t : Si
 either_cut size address value count u x s t some (inl a) = alone_cut size address value count 0 u s s t some none_stored a
 either_cut size address value count u x s t some (inr a) = alone_cut size address value count 0 x s s t some none_stored a
 
-put_cut : (size : Size) (address value count : ℕ) (s : Site) (k : ℕ) (x t : Site) → is_aligned address size ≡ true
+pub put_cut : (size : Size) (address value count : ℕ) (s : Site) (k : ℕ) (x t : Site) → is_aligned address size ≡ true
     → address + count * count_of size ≤ 2 ^ 64 → k < count → Asked size address value count s k x
     → SiteCut (Write sbdata0_address (low_half value)) x t → BusBlockStoreCut size address value count s t
 put_cut size address value count s k x t aligned ends below g (unperformed d) =
@@ -217,10 +217,10 @@ finding_cut size address value count last acts op s x mid t some f (StoresEnd.re
 
 -- ---- of a told chip
 
-record StoresCut (size : Size) (address value count : ℕ) (s : Site) (told : Option Far) : Type 0 where
-  far : Far
-  is : told ≡ Some far
-  left : BusBlockStoreCut size address value count s (site_of far)
+pub record StoresCut (size : Size) (address value count : ℕ) (s : Site) (told : Option Far) : Type 0 where
+  pub far : Far
+  pub is : told ≡ Some far
+  pub left : BusBlockStoreCut size address value count s (site_of far)
 
 asking_cut : (size : Size) (address value count old_count new_count : ℕ) (f : Far) (coming : Option DmiComing) (told : Option Far) (why : DmiFault)
     → SiteReady (site_of f) → is_aligned address size ≡ true → address + count * count_of size ≤ 2 ^ 64 → 0 < count
@@ -306,7 +306,7 @@ run_cut size address value count f coming new old_count new_count e ready aligne
     (clearing_cut size address value count last old_count new_count f polled new.far why some
     (polled_at size address value count last f coming polled ready aligned ends some r) b)
 
-cut_left : (size : Size) (address value count : ℕ) (f : Far) (told : Option Far) → StoresCut size address value count (site_of f) told
+pub cut_left : (size : Size) (address value count : ℕ) (f : Far) (told : Option Far) → StoresCut size address value count (site_of f) told
     → Leaves (BusBlockStoreCut size address value count) (Some f) told
 cut_left size address value count f told c = record { far = c.far; is = c.is; left = c.left }
 

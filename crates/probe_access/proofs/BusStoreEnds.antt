@@ -58,13 +58,13 @@ use Rattle.probe_access.proofs.ReadyTurns.{passed_turns}
 
 -- ---- polls
 
-storing_poll : (size : Size) (address value : ℕ) (s : Site) (collided : Bool) (n : ℕ) (x : Site) → Storing size address value s collided n x
+pub storing_poll : (size : Size) (address value : ℕ) (s : Site) (collided : Bool) (n : ℕ) (x : Site) → Storing size address value s collided n x
     → Storing size address value s collided n (operated (Read sbcs_address) x)
 storing_poll size address value s collided n x w =
     let u : BusUnit = writing size (element_at size address n) value collided in
     record { mid = w.mid; each = w.each; ready = w.ready; at = at_read sbcs_address _ _ u u w.mid x of_sbcs w.ready refl w.at }
 
-still_poll : (size : Size) (address value : ℕ) (s : Site) (collided : Bool) (n : ℕ) (x : Site) → Still size address value s collided n x
+pub still_poll : (size : Size) (address value : ℕ) (s : Site) (collided : Bool) (n : ℕ) (x : Site) → Still size address value s collided n x
     → Still size address value s collided n (operated (Read sbcs_address) x)
 still_poll size address value s collided n x r =
     let u : BusUnit = still_bus size (element_at size address n % 2 ^ 64) r.held collided in
@@ -77,7 +77,7 @@ still_poll size address value s collided n x r =
       at = at_read sbcs_address _ _ u u r.mid x of_sbcs r.ready refl r.at;
     }
 
-unstored_poll : (size : Size) (address value : ℕ) (s : Site) (collided : Bool) (n : ℕ) (x : Site) → Unstored size address value s collided n x
+pub unstored_poll : (size : Size) (address value : ℕ) (s : Site) (collided : Bool) (n : ℕ) (x : Site) → Unstored size address value s collided n x
     → Unstored size address value s collided n (operated (Read sbcs_address) x)
 unstored_poll size address value s collided n x r =
     let u : BusUnit = unstored_bus size (element_at size address n) value collided in
@@ -222,7 +222,7 @@ stored_last size address value _ s mid u t some none_stored at = absurd (omega (
 stored_last size address value _ s mid u t some (stored_further n m _ each one) at =
     record { front = n; is = refl; mid = m; each = each; one = stored_passed size (element_at size address n) value m mid u t one at }
 
-stored_each : (size : Size) (address value n : ℕ) (s t : Site) → StoredLast size address value n s t → BusStoredEach size address value s n t
+pub stored_each : (size : Size) (address value n : ℕ) (s t : Site) → StoredLast size address value n s t → BusStoredEach size address value s n t
 stored_each size address value n s t l =
     subst (λ k. BusStoredEach size address value s k t) (sym l.is) (stored_further l.front l.mid t l.each l.one)
 

@@ -72,12 +72,12 @@ pub record StoresTold (size : Size) (address value done : ℕ) (old new : Option
   pub stored : WhereTold (BusBlockStoredAt size address value done) old new
   pub ready : IsReady new
 
-told_stored : (size : Size) (address value done : ℕ) (f g : Far) (new : Option Far) → new ≡ Some g
+pub told_stored : (size : Size) (address value done : ℕ) (f g : Far) (new : Option Far) → new ≡ Some g
     → AllStored size address value done (site_of f) (site_of g) → StoresTold size address value done (Some f) new
 told_stored size address value done f g new is a =
     record { stored = record { far = g; is = is; each = a.each }; ready = subst (λ (o : Option Far). IsReady o) (sym is) a.ready }
 
-untold_stored : (size : Size) (address value done : ℕ) (new : Option Far) → new ≡ None → StoresTold size address value done None new
+pub untold_stored : (size : Size) (address value done : ℕ) (new : Option Far) → new ≡ None → StoresTold size address value done None new
 untold_stored size address value done new is = record { stored = is; ready = subst (λ (o : Option Far). IsReady o) (sym is) tt }
 
 polled_untold : (size : Size) (address value count last : ℕ) (coming : Option DmiComing) (new : Tells)

@@ -130,7 +130,7 @@ stage_end size address value s collided n mid t before behind each ready is (not
       };
     })
 
-stage_went : (size : Size) (address value : ℕ) (s : Site) (collided : Bool) (n : ℕ) (mid t : Site) → BusStoredEach size address value s n mid
+pub stage_went : (size : Size) (address value : ℕ) (s : Site) (collided : Bool) (n : ℕ) (mid t : Site) → BusStoredEach size address value s n mid
     → SiteReady mid → BusStage (writing size (element_at size address n) value collided) mid t → Went size address value s collided n t
 stage_went size address value s collided n mid t each ready (waits harts is) =
     Went.writes (record { mid = mid; each = each; ready = ready; at = record { harts = harts; is = is } })

@@ -1,5 +1,5 @@
 -- A run of stores by the system bus at a told chip, write by write: as long as no error is set, each starts the store of one more element.
-use Rattle.std.proofs.Common.{◌≡◌, ◌∙◌, ◌≤◌, ◌<◌, ◌+◌, ◌*◌, ◌^◌, ◌%◌, ℕ, zero, suc, List, [], ◌∷◌, Bool, true, false, refl, sym, subst, arith}
+use Rattle.std.proofs.Common.{◌≡◌, ◌≤◌, ◌<◌, ◌+◌, ◌*◌, ◌^◌, ◌%◌, ℕ, zero, suc, List, [], ◌∷◌, Bool, true, false, refl, sym, subst, arith}
 use Rattle.rv_model.specs.declared.size.Size.{Size}
 use Rattle.rv_model.specs.Memory.{is_aligned}
 use Rattle.rv_model.specs.Size.{count_of}
@@ -13,6 +13,7 @@ use Rattle.debug_model.specs.SystemBus.{BusUnit}
 use Rattle.debug_model.specs.Told.{SiteReady}
 use Rattle.probe_run.specs.Acts.Act.{Put}
 use Rattle.probe_access.specs.Blocks.{element_at}
+use Rattle.probe_access.specs.BusBlocks.{BusStoredEach}
 use Rattle.probe_access.specs.BusBlocks.BusStoredEach.{nothing as none_stored}
 use Rattle.probe_access.specs.BusStoreStreams.{data_puts, stores_asked, stores_started, storing}
 use Rattle.probe_access.proofs.Along.{SiteActs, Split, site_acts-split}
@@ -54,7 +55,7 @@ wrong_ran size address value count s x ds (Wrong.still n below r) = Wrong.still 
 wrong_ran size address value count s x ds (Wrong.unstored collided n below r) =
     Wrong.unstored collided n below (unstored_ran size address value s collided n x ds r)
 
-asked_went : (size : Size) (address value count : ℕ) (s : Site) (k n : ℕ) (t : Site) → k ≤ count → n + 1 ≡ k → Went size address value s false n t
+pub asked_went : (size : Size) (address value count : ℕ) (s : Site) (k n : ℕ) (t : Site) → k ≤ count → n + 1 ≡ k → Went size address value s false n t
     → Asked size address value count s k t
 asked_went size address value count s k n t within is (Went.writes w) = Asked.writes n is w
 asked_went size address value count s k n t within is (Went.still r) = Asked.still (subst (λ i. Still size address value s false i t) is r)
@@ -105,7 +106,7 @@ wrong_put size address value count s low x (Wrong.unstored collided n below r) =
       at = at_write sbdata0_address low _ u u r.mid x (to_sbdata0 low) r.ready (unstored_keeps size (element_at size address n) value low collided) r.at;
     })
 
-still_put : (size : Size) (address value count : ℕ) (s : Site) (k : ℕ) (x : Site) → is_aligned address size ≡ true
+pub still_put : (size : Size) (address value count : ℕ) (s : Site) (k : ℕ) (x : Site) → is_aligned address size ≡ true
     → address + count * count_of size ≤ 2 ^ 64 → k < count → Still size address value s false k x
     → Storing size address value s false k (operated (Write sbdata0_address (low_half value)) x)
 still_put size address value count s k x aligned ends below r =
@@ -176,29 +177,41 @@ low_at size address s t ready p =
     p.2.0 t (to_sbaddress0 (low_half address)) (works_ready s ready) refl (store_low size u.address u.value address) refl
     (high_at size address s p.2.0 ready (p.0, p.1, (p.2.0, p.2.1, refl))) p.2.2
 
+-- so many were stored before, and the next one's address and the upper half of the value are there
+pub still_from : (size : Size) (address value count : ℕ) (s : Site) (n : ℕ) (mid t : Site) → BusStoredEach size address value s n mid → SiteReady mid
+    → address + count * count_of size ≤ 2 ^ 64 → n < count
+    → AtBus (still_bus size (element_at size address n) (upper_put mid.unit.bus.value value) false) mid t → Still size address value s false n t
+still_from size address value count s n mid t each ready ends below at =
+    let there : element_at size address n ≡ element_at size address n % 2 ^ 64 =
+    element_whole size address n (element_small size address count n ends below) in
+    record {
+      mid = mid;
+      each = each;
+      ready = ready;
+      held = upper_put mid.unit.bus.value value;
+      whole = halves_put mid.unit.bus.value value;
+      at = subst (λ a. AtBus (still_bus size a (upper_put mid.unit.bus.value value) false) mid t) there at;
+    }
+
 pub none_asked : (size : Size) (address value count : ℕ) (s t : Site) → SiteReady s → address + count * count_of size ≤ 2 ^ 64 → 0 < count
     → AtBus (still_bus size address (upper_put s.unit.bus.value value) false) s t → Asked size address value count s 0 t
 none_asked size address value count s t ready ends some at =
-    let there : address ≡ element_at size address 0 % 2 ^ 64 =
-    sym (first_at size address) ∙ element_whole size address 0 (element_small size address count 0 ends some) in
-    Asked.still (record {
-      mid = s;
-      each = none_stored;
-      ready = ready;
-      held = upper_put s.unit.bus.value value;
-      whole = halves_put s.unit.bus.value value;
-      at = subst (λ a. AtBus (still_bus size a (upper_put s.unit.bus.value value) false) s t) there at;
-    })
+    Asked.still (still_from size address value count s 0 s t none_stored ready ends some
+    (subst (λ a. AtBus (still_bus size a (upper_put s.unit.bus.value value) false) s t) (sym (first_at size address)) at))
+
+pub started_at : (size : Size) (address value : ℕ) (s t : Site) → SiteReady s → SiteActs (stores_started size address value) s t
+    → AtBus (still_bus size address (upper_put s.unit.bus.value value) false) s t
+started_at size address value s t ready p =
+    let u : BusUnit = s.unit.bus in
+    let q = p.2.2 in
+    put_bus sbdata1_address (high_half value) _ (still_bus size address u.value false) (still_bus size address (upper_put u.value value) false) s q.0 t
+    (to_sbdata1 (high_half value)) (works_ready s ready) refl (store_upper size address u.value value) refl
+    (low_at size address s q.0 ready (p.0, p.1, (p.2.0, p.2.1, (q.0, q.1, refl)))) q.2
 
 pub asked_first : (size : Size) (address value count : ℕ) (s t : Site) → SiteReady s → address + count * count_of size ≤ 2 ^ 64 → 0 < count
     → SiteActs (stores_started size address value) s t → Asked size address value count s 0 t
 asked_first size address value count s t ready ends some p =
-    let u : BusUnit = s.unit.bus in
-    let q = p.2.2 in
-    none_asked size address value count s t ready ends some
-    (put_bus sbdata1_address (high_half value) _ (still_bus size address u.value false) (still_bus size address (upper_put u.value value) false) s q.0 t
-    (to_sbdata1 (high_half value)) (works_ready s ready) refl (store_upper size address u.value value) refl
-    (low_at size address s q.0 ready (p.0, p.1, (p.2.0, p.2.1, (q.0, q.1, refl)))) q.2)
+    none_asked size address value count s t ready ends some (started_at size address value s t ready p)
 
 pub all_asked : (size : Size) (address value count : ℕ) (s t : Site) → SiteReady s → is_aligned address size ≡ true
     → address + count * count_of size ≤ 2 ^ 64 → 0 < count → SiteActs (stores_asked size address value count) s t

@@ -12,7 +12,7 @@ use Rattle.probe_run.specs.Acts.{Act, Did, Tells, tells}
 use Rattle.probe_run.specs.Acts.Did.{nothing}
 use Rattle.probe_run.proofs.ActLemmas.{did_list, did_then}
 use Rattle.probe_access.specs.Accesses.{IfMemory}
-use Rattle.probe_access.specs.BusBlockRuns.{BusCauses, BusLoadsRefused, BusReported, BusReportedOddly}
+use Rattle.probe_access.specs.BusBlockRuns.{BusCauses, BusReported, BusReportedOddly, RunRefused}
 use Rattle.probe_access.specs.BusBlocks.{BusBlockLoadCut, BusBlockLoadLeft}
 use Rattle.probe_access.specs.BusRuns.{BusPollFailed, BusPolled, bus_error, bus_poll}
 use Rattle.probe_access.specs.BusStreams.{FrontRead, RunFailed, RunFell, RunOddly, Stopped, found_acts}
@@ -165,10 +165,10 @@ fell_ready size address count old_count new_count values far coming new (access_
 
 pub fell_refused : (size : Size) (address count old_count new_count : ℕ) (values kept : List ℕ) (old new : Tells) (e : AccessFault)
     → IfMemory (kept ≡ values) e → RunFell size address count values old_count new_count old new e
-    → IfMemory (BusLoadsRefused size address kept old new) e
+    → IfMemory (RunRefused size address kept old new) e
 fell_refused size address count old_count new_count values kept old new (access_fault.Dmi why) same f = tt
 fell_refused size address count old_count new_count values kept old new (access_fault.Memory at) same f =
-    subst (λ xs. BusLoadsRefused size address xs old new) (sym same) (BusLoadsRefused.in_run count f.0 f.4 f.3)
+    subst (λ xs. RunRefused size address xs old new) (sym same) (record { count = count; last = f.0; stopped = f.4; outside = f.3 })
 fell_refused size address count old_count new_count values kept old new (access_fault.Register number) same f = tt
 fell_refused size address count old_count new_count values kept old new access_fault.StillBusy same f = tt
 fell_refused size address count old_count new_count values kept old new (access_fault.Run why) same f = tt

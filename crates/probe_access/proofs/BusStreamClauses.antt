@@ -122,7 +122,7 @@ pub record RunLoaded (size : Size) (address : ℕ) (values : List ℕ) (old new 
   pub loaded : WhereTold (BusBlockLoadedAt size address values) old new
   pub ready : IsReady new
 
-told_loaded : (size : Size) (address : ℕ) (values : List ℕ) (f g : Far) (new : Option Far) → new ≡ Some g
+pub told_loaded : (size : Size) (address : ℕ) (values : List ℕ) (f g : Far) (new : Option Far) → new ≡ Some g
     → AllLoaded size address values (site_of f) (site_of g) → RunLoaded size address values (Some f) new
 told_loaded size address values f g new is a =
     record { loaded = record { far = g; is = is; each = a.each }; ready = subst (λ (o : Option Far). IsReady o) (sym is) a.ready }
@@ -133,7 +133,7 @@ ran_untold size address read coming new r =
     did_untold r.stopped _ new r.last.did (did_untold r.read _ r.stopped r.stops
     (did_untold r.begun _ r.read r.first.did (did_untold (tells None coming) _ r.begun r.starts refl)))
 
-none_loaded : (size : Size) (address : ℕ) (values : List ℕ) (new : Option Far) → new ≡ None → RunLoaded size address values None new
+pub none_loaded : (size : Size) (address : ℕ) (values : List ℕ) (new : Option Far) → new ≡ None → RunLoaded size address values None new
 none_loaded size address values new is = record { loaded = is; ready = subst (λ (o : Option Far). IsReady o) (sym is) tt }
 
 not_zero : (n : ℕ) → n ≡ 2 → n ≡ 0 → ⊥

@@ -59,7 +59,7 @@ turns_alone u mid t a =
 pub bus_before : (u : BusUnit) (mid t : Site) → AtBus u mid t → BusLeftOff LoadLeaves mid t
 bus_before u mid t a = before_it (turns_alone u mid t a)
 
-loaded_behind : (size : Size) (address v : ℕ) (s t : Site) → BusLoadedOne size address v s t → BusLeftOff LoadLeaves s t
+pub loaded_behind : (size : Size) (address v : ℕ) (s t : Site) → BusLoadedOne size address v s t → BusLeftOff LoadLeaves s t
 loaded_behind size address v s t one = behind_it (record {
   before = one.before;
   behind = one.behind;
@@ -70,7 +70,7 @@ loaded_behind size address v s t one = behind_it (record {
   unit = one.access.unit;
 })
 
-refused_behind : (size : Size) (address : ℕ) (s t : Site) → BusNotLoadedOne size address s t → BusLeftOff LoadLeaves s t
+pub refused_behind : (size : Size) (address : ℕ) (s t : Site) → BusNotLoadedOne size address s t → BusLeftOff LoadLeaves s t
 refused_behind size address s t one = behind_it (record {
   before = one.before;
   behind = one.behind;

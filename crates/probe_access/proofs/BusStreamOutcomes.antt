@@ -14,7 +14,6 @@ use Rattle.probe_access.specs.declared.fault.AccessFault.TheVariants as access_f
 use Rattle.probe_access.specs.declared.odd.OddStatus.{OddStatus}
 use Rattle.probe_run.specs.Acts.{Tells, tells}
 use Rattle.probe_access.specs.Blocks.{element_at}
-use Rattle.probe_access.specs.BusBlockRuns.{BusLoads}
 use Rattle.probe_access.specs.BusRuns.{BusPollFailed, bus_collided, bus_error, cut_to, outside_error}
 use Rattle.probe_access.specs.BusStreams.{Finding, FoundAt, HandOutFell, Handed, HandedOut, Misplaced, Ran, RunFailed, RunFell, RunLoads, RunOddly, RunRead, Stopped, found_acts}
 use Rattle.probe_access.specs.BusStreams.RunFailed.{in_start, in_front, in_stop, in_last, in_polls, in_finding}
@@ -131,11 +130,6 @@ loads_told size address count values far coming new ready aligned ends few (RunL
     ran_through size address count values far coming new ready aligned ends all r
 loads_told size address count values far coming new ready aligned ends few (RunLoads.some last s fine early) =
     ran_on size address count last values far coming new ready aligned ends few s fine early
-
-pub loads_heard : (size : Size) (address count : ℕ) (values : List ℕ) (old new : Tells) → RunLoads size address count values old new
-    → BusLoads size address old values new
-loads_heard size address count values old new (RunLoads.all all r) = BusLoads.ran values new r
-loads_heard size address count values old new (RunLoads.some last s fine early) = BusLoads.ran_on count last values new s fine early
 
 -- ---- another error is shown of no told chip
 

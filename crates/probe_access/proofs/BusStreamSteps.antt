@@ -77,7 +77,7 @@ start_set size address s t ready p =
     (run_bus true size (upper_put u.address address) u.value Fine false None) s p.0 t (to_sbaddress1 (high_half address)) (works_ready s ready) refl
     (run_high size u.address u.value address) refl first p.2
 
-start_stage : (size : Size) (address : ℕ) (s t : Site) → SiteReady s → is_aligned address size ≡ true → SiteActs (run_started size address) s t
+pub start_stage : (size : Size) (address : ℕ) (s t : Site) → SiteReady s → is_aligned address size ≡ true → SiteActs (run_started size address) s t
     → BusStage (reading true size address s.unit.bus.value false) s t
 start_stage size address s t ready aligned p =
     let u : BusUnit = s.unit.bus in
@@ -145,7 +145,7 @@ next_started size address count s read v x aligned ends below r =
           ∙ read_starts true size next v (element_aligned size address (length (read ++ v ∷ [])) aligned)) r.at;
     }
 
-low_shown : (size : Size) (address count : ℕ) (s : Site) (on_data : Bool) (read : List ℕ) (v : ℕ) (x : Site)
+pub low_shown : (size : Size) (address count : ℕ) (s : Site) (on_data : Bool) (read : List ℕ) (v : ℕ) (x : Site)
     → Resting size address count s on_data false read v x → operation_result (Read sbdata0_address) x ≡ low_half v
 low_shown size address count s on_data read v x r =
     shown_at sbdata0_address sbdata0_read _ (read_bus on_data size (element_at size address (length read)) v false) r.mid x of_sbdata0 r.ready r.at

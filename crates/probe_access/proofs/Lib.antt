@@ -96,9 +96,7 @@ pub mod BlockCutClauses
 pub mod BusCuts
 pub mod BusCutClauses
 pub mod BusStartCuts
-pub mod BusBlockTold
 pub mod BusBlockCauses
-pub mod BusBlockCutClauses
 pub mod BusStreamUnits
 pub mod BusStreamSites
 pub mod BusStreamShown
@@ -123,3 +121,14 @@ pub mod BusStoreCalls
 pub mod BusStoreParts
 pub mod PendingTold
 pub mod PendingClauses
+pub mod BusAwaitCalls
+pub mod BusLoadBehind
+pub mod BusLoadAwaits
+pub mod BusLoadAwaitTold
+pub mod BusLoadAwaitCuts
+pub mod BusLoadAwaitFaults
+pub mod BusSpent
+pub mod BusStoreAwaits
+pub mod BusStoreAwaitTold
+pub mod BusStoreAwaitCuts
+pub mod BusStoreAwaitFaults

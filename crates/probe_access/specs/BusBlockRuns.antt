@@ -1,54 +1,64 @@
 -- The calls of a block of accesses by the system bus: how each element was accessed, and what a fault follows.
 -- RISC-V Debug Specification 1.0, "System Bus Access" and "System Bus Access Control and Status".
-use Rattle.std.specs.Prelude.{◌≡◌, ◌≢◌, ◌⊎◌, ◌<◌, ◌+◌, ◌++◌, ◌∷◌, ℕ, List, [], length, true, false}
+use Rattle.std.specs.Prelude.{◌≡◌, ◌≢◌, ◌⊎◌, ◌<◌, ◌++◌, ◌∷◌, ℕ, List, [], length, true, false}
 use Rattle.rv_model.specs.declared.size.Size.{Size}
 use Rattle.probe_access.specs.declared.fault.AccessFault.{AccessFault}
 use Rattle.probe_access.specs.declared.fault.AccessFault.TheVariants as fault
 use Rattle.probe_access.specs.declared.odd.OddStatus.{OddStatus}
 use Rattle.probe_access.specs.declared.odd.OddStatus.TheVariants.{Sbcs}
+use Rattle.debug_model.specs.Addresses.{sbdata0_address}
+use Rattle.debug_model.specs.Commands.{low_half}
 use Rattle.probe_run.specs.Acts.{Act, Attempt, Broke, Did, Tells}
+use Rattle.probe_run.specs.Acts.Act.{Put}
+use Rattle.probe_access.specs.BusAwaits.{AllAwaited, LoadsAwaited, StoresAwaited}
 use Rattle.probe_access.specs.Blocks.{element_at}
 use Rattle.probe_access.specs.BusStoreStreams.{StoresStopped, StoresThrough}
-use Rattle.probe_access.specs.BusStreams.{RanThrough, Stopped}
-use Rattle.probe_access.specs.BusRuns.{BusAlwaysBusy, BusLoaded, BusRefused, BusStored, bus_busy, bus_collided, bus_error, bus_poll, outside_error, read_started, write_started}
+use Rattle.probe_access.specs.BusStreams.{RunLoads, Stopped}
+use Rattle.probe_access.specs.BusRuns.{BusAlwaysBusy, BusRefused, bus_busy, bus_collided, bus_error, bus_poll, outside_error}
 
 -- ---- loads
 
--- just the elements from an address on were loaded, in this order, and these were the values: each by an access of its own, or the first of them in a run
--- that went through, or that ended where a word was read too early
+-- just the elements from an address on were loaded, in this order, and these were the values: in runs, each of which went through but perhaps the last, or
+-- those up to the first that was read too early; and the others each awaited before its words were read
 pub data BusLoads (size : Size) (address : ℕ) (old : Tells) : List ℕ → Tells → Type 0 where
-  nothing : BusLoads size address old [] old
-  alone : (values : List ℕ) (value : ℕ) (mid new : Tells) → BusLoads size address old values mid
-      → BusLoaded size (element_at size address (length values)) value mid new → BusLoads size address old (values ++ value ∷ []) new
-  ran : (values : List ℕ) (new : Tells) → RanThrough size address values old new → BusLoads size address old values new
-  ran_on : (count last : ℕ) (values : List ℕ) (new : Tells) → Stopped size address count last values old new → bus_error last ≡ 0 → bus_collided last ≡ true
+  ran : (count : ℕ) (values : List ℕ) (new : Tells) → RunLoads size address count values old new → BusLoads size address old values new
+  ran_behind : (count : ℕ) (first more : List ℕ) (mid new : Tells) → BusLoads size address old first mid
+      → RunLoads size (element_at size address (length first)) count more mid new → BusLoads size address old (first ++ more) new
+  awaited : (count : ℕ) (first values : List ℕ) (mid new : Tells) → BusLoads size address old first mid → AllAwaited size address count first values mid new
       → BusLoads size address old values new
+
+-- the first of the elements of a run were loaded, and memory refused the next
+pub record RunRefused (size : Size) (address : ℕ) (values : List ℕ) (old new : Tells) : Type 0 where
+  pub count : ℕ
+  pub last : ℕ
+  pub stopped : Stopped size address count last values old new
+  pub outside : bus_error last ≡ outside_error
 
 -- and the next was asked for and refused
 pub data BusLoadsRefused (size : Size) (address : ℕ) (values : List ℕ) (old new : Tells) : Type 0 where
-  alone : (mid started : Tells) → BusLoads size address old values mid
-      → Did mid (read_started size (element_at size address (length values))) started → BusRefused started new
+  in_run : RunRefused size address values old new → BusLoadsRefused size address values old new
+  in_run_behind : (first more : List ℕ) (mid : Tells) → values ≡ first ++ more → BusLoads size address old first mid
+      → RunRefused size (element_at size address (length first)) more mid new → BusLoadsRefused size address values old new
+  awaited : (was : List ℕ) (first mid : Tells) → BusLoads size address old was first → LoadsAwaited size address was first values mid → BusRefused mid new
       → BusLoadsRefused size address values old new
-  in_run : (count last : ℕ) → Stopped size address count last values old new → bus_error last ≡ outside_error → BusLoadsRefused size address values old new
 
 -- ---- stores
 
--- just so many elements from an address on were stored, in this order: each by an access of its own, or the first of them in a run that went through, or
--- that ended where one was asked for too early
+-- just so many elements from an address on were stored, in this order: in a run that went through; or the first of them in one that ended where one was
+-- asked for too early, and the others each awaited before the next
 pub data BusStores (size : Size) (address value : ℕ) (old : Tells) : ℕ → Tells → Type 0 where
-  nothing : BusStores size address value old 0 old
-  alone : (n : ℕ) (mid new : Tells) → BusStores size address value old n mid → BusStored size (element_at size address n) value mid new
-      → BusStores size address value old (n + 1) new
   ran : (count : ℕ) (new : Tells) → StoresThrough size address value count old new → BusStores size address value old count new
   ran_on : (count last done : ℕ) (new : Tells) → StoresStopped size address value count last done old new → bus_error last ≡ 0 → bus_collided last ≡ true
       → BusStores size address value old done new
+  awaited : (from n : ℕ) (mid new : Tells) → BusStores size address value old from mid → StoresAwaited size address value from mid n new
+      → BusStores size address value old n new
 
 -- and the next was tried and refused
 pub data BusStoresRefused (size : Size) (address value count : ℕ) (old new : Tells) : Type 0 where
-  alone : (n : ℕ) (mid started : Tells) → n < count → BusStores size address value old n mid
-      → Did mid (write_started size (element_at size address n) value) started → BusRefused started new
-      → BusStoresRefused size address value count old new
   in_run : (last done : ℕ) → done < count → StoresStopped size address value count last done old new → bus_error last ≡ outside_error
+      → BusStoresRefused size address value count old new
+  awaited : (from n : ℕ) (first mid asked : Tells) → n < count → BusStores size address value old from first
+      → StoresAwaited size address value from first n mid → Did mid (Put sbdata0_address (low_half value) ∷ []) asked → BusRefused asked new
       → BusStoresRefused size address value count old new
 
 -- ---- what a fault follows

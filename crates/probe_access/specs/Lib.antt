@@ -2,6 +2,7 @@ pub mod Accesses
 pub mod BlockCuts
 pub mod BlockRuns
 pub mod Blocks
+pub mod BusAwaits
 pub mod BusBlockRuns
 pub mod BusBlocks
 pub mod BusRuns
@@ -20,6 +21,7 @@ pub mod RegisterRuns
 pub mod Scratches
 pub mod SingleSteps
 pub mod StepRuns
+pub mod Spent
 pub mod Stops
 pub mod RegisterAccess
 pub mod ReadRuns

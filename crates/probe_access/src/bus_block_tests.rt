@@ -87,12 +87,64 @@ fn loads_bytes_and_doubles_by_the_bus(rt: HostRuntime) {
 #[test]
 fn goes_on_behind_a_word_that_was_read_too_early(rt: HostRuntime) {
     let mut into = ArrayVec::new();
-    let second_early: [u32; 11] = [0x11, 7, 7, EARLY, 0, 0x8000_0018, 0, 0x22, IDLE, 0x33, 7];
+    let second_early: [u32; 10] = [0x11, 7, 7, EARLY, 0, 0x8000_0018, 0, 0x22, IDLE, 0x33];
     assert_eq!(rt; three_words(&second_early, &mut into), Ok(()));
     assert_eq!(rt; into.as_slice(), [0x11, 0x22, 0x33].as_slice());
     let third_early: [u32; 8] = [0x11, 0x22, 7, EARLY, 0, 0x8000_001c, 9, 0x33];
     assert_eq!(rt; three_words(&third_early, &mut into), Ok(()));
     assert_eq!(rt; into.as_slice(), [0x11, 0x22, 0x33].as_slice());
+}
+
+#[test]
+fn awaits_each_double_behind_a_word_that_was_read_too_early(rt: HostRuntime) {
+    let mut into = ArrayVec::new();
+    // two in a run, of which the first was loaded; the second is awaited, and its upper word read first
+    let words: [u32; 14] = [
+        7,
+        7,
+        7,
+        7,
+        EARLY,
+        0,
+        0x8000_0018,
+        2,
+        1,
+        BUSY,
+        BUSY,
+        IDLE,
+        4,
+        3,
+    ];
+    let mut link = answering(&words);
+    assert_eq!(rt;
+        bus_load_block(&mut link, Size::B8, PLACE, 2, &mut into),
+        Ok(())
+    );
+    assert_eq!(rt; into.as_slice(), [0x2_0000_0001, 0x4_0000_0003].as_slice());
+    // an error that no access awaited can end with
+    into.clear();
+    let mut odd = answering(&[7, 7, 7, 7, EARLY, 0, 0x8000_0018, 2, 1, EARLY]);
+    assert_eq!(rt;
+        bus_load_block(&mut odd, Size::B8, PLACE, 2, &mut into),
+        Err(AccessFault::Odd(OddStatus::Sbcs(EARLY)))
+    );
+    assert_eq!(rt; into.as_slice(), [0x2_0000_0001].as_slice());
+}
+
+#[test]
+fn loads_a_long_block_in_two_runs(rt: HostRuntime) {
+    let mut into = ArrayVec::new();
+    // eleven of twelve by the half and five more, and one
+    let words: [u32; 14] = [1, 2, 3, 4, 5, 6, 7, 8, 9, 10, 11, IDLE, 12, IDLE];
+    let mut link = answering(&words);
+    assert_eq!(rt;
+        bus_load_block(&mut link, Size::B4, PLACE, 12, &mut into),
+        Ok(())
+    );
+    assert_eq!(rt;
+        into.as_slice(),
+        [1, 2, 3, 4, 5, 6, 7, 8, 9, 10, 11, 12].as_slice()
+    );
 }
 
 #[test]

@@ -1,6 +1,6 @@
 //! Accesses to many elements in a row by the system bus: no hart takes part, and none need be halted.
 
-ghost use Rattle.std.specs.Prelude.{◌≡◌, ◌≤◌, ◌+◌, ◌*◌, [], true, length, IfErr, OnOk};
+ghost use Rattle.std.specs.Prelude.{◌≡◌, ◌⊎◌, ◌≤◌, ◌+◌, ◌*◌, ◌++◌, [], true, length, IfErr, OnOk};
 ghost use Rattle.rv_model.specs.Memory.{is_aligned};
 ghost use Rattle.rv_model.specs.Size.{count_of};
 ghost use Rattle.debug_model.specs.Command.{most_elements, all_addresses};
@@ -9,22 +9,94 @@ ghost use Rattle.probe_access.specs.Accesses.{IfMemory};
 ghost use Rattle.probe_access.specs.BusBlocks.{BusBlockLoadCut, BusBlockLoadLeft, BusBlockLoadedAt, BusBlockStoreCut, BusBlockStoreLeft, BusBlockStoredAt};
 ghost use Rattle.probe_access.specs.BusBlockRuns.{BusCauses, BusLoads, BusLoadsRefused, BusStores, BusStoresRefused};
 ghost use Rattle.probe_access.specs.Cuts.{IfCut, Leaves};
+ghost use Rattle.debug_model.specs.Addresses.{sbcs_address};
+ghost use Rattle.probe_access.specs.Spent.{DidAtMost, IfUnbroken};
 ghost use Rattle.debug_model.specs.Kept.{CanCall, Keeps};
 ghost use Rattle.probe_run.specs.Told.{Fails, OnChip, told};
 ghost use Rattle.probe_access.specs.Faults.{access_why};
 
 use crate::blocks::ELEMENTS_MOST;
-use crate::bus::{bus_load, bus_store};
+use crate::bus_load_awaits::load_awaited;
 use crate::bus_runs::{element, load_run};
+use crate::bus_store_awaits::store_awaited;
 use crate::bus_store_runs::store_run;
 use crate::fault::AccessFault;
 use arrayvec::ArrayVec;
 use debug_model::Dmi;
 use rv_model::Size;
 
+/// How many elements the first of two runs has. Where it goes too early, and where the second does, what that wastes and what the rest then take is no more
+/// than `few` of a block allows.
+fn first_run(count: u16) -> u16
+    requires some { 1 ≤ count }
+    requires room { count ≤ most_elements }
+    ensures some { 1 ≤ result }
+    ensures within { result ≤ count }
+    ensures few { 2 * result ≤ count + 10 }
+    ensures half { (result ≡ count) ⊎ (count + 9 ≤ 2 * result) }
+{
+    count.min(count / 2 + 5)
+}
+
+/// Puts values behind others, where there is room.
+fn append(values: &[u64], into: &mut ArrayVec<u64, ELEMENTS_MOST>)
+    ensures { length into.old.items + length values.now ≤ most_elements → into.new.items ≡ into.old.items ++ values.now }
+{
+    let _room = into.try_extend_from_slice(values);
+}
+
+/// Loads elements in two runs, or up to the first that was read too early. `Memory` where memory refused one. Behind another fault `into` holds those of the
+/// runs in front.
+fn load_runs<D: Dmi>(
+    link: &mut D,
+    size: Size,
+    address: u64,
+    count: u16,
+    into: &mut ArrayVec<u64, ELEMENTS_MOST>,
+) -> Result<(), AccessFault>
+    requires callable { CanCall (D.seen link.old) }
+    requires ready { IsReady (D.seen link.old).far }
+    requires aligned { is_aligned address size ≡ true }
+    requires some { 1 ≤ count }
+    requires room { count ≤ most_elements }
+    requires ends { address + count * count_of size ≤ all_addresses }
+    requires empty { into.old.items ≡ [] }
+    ensures most { OnOk result (length into.new.items ≤ count) }
+    ensures loaded { OnOk result (OnChip (BusBlockLoadedAt size address into.new.items) (D.seen link.old) (D.seen link.new)) }
+    ensures loads { OnOk result (BusLoads size address (told (D.seen link.old)) into.new.items (told (D.seen link.new))) }
+    ensures refused { IfErr result (IfMemory (BusLoadsRefused size address into.new.items (told (D.seen link.old)) (told (D.seen link.new)))) }
+    ensures few { OnOk result (DidAtMost sbcs_address (count + 19 + 2 * length into.new.items) (told (D.seen link.old)) (told (D.seen link.new))) }
+    ensures few_failed { IfErr result (IfUnbroken (DidAtMost sbcs_address (3 * count + 24) (told (D.seen link.old)) (told (D.seen link.new)))) }
+    ensures left { IfErr result (BusBlockLoadLeft size address count into.new.items (D.seen link.old).far (D.seen link.new).far) }
+    ensures causes { IfErr result (Fails BusCauses (D.seen link.old) (D.seen link.new)) }
+    ensures cut { IfErr result (IfCut (Leaves (BusBlockLoadCut size address count into.new.items) (D.seen link.old).far (D.seen link.new).far)) }
+    ensures ready { OnOk result (IsReady (D.seen link.new).far) }
+    ensures ready_again { IfErr result (IfMemory (IsReady (D.seen link.new).far)) }
+    ensures keeps { Keeps access_why (D.seen link.old) (D.seen link.new) result }
+{
+    let first = first_run(count);
+    load_run(link, size, address, first, into)?;
+    let done = into.len() as u16;
+    if done < first || first == count {
+        return Ok(());
+    }
+    let mut part = ArrayVec::new();
+    let at = element(size, address, done, count);
+    match load_run(link, size, at, count - done, &mut part) {
+        Ok(()) => {
+            append(&part, into);
+            Ok(())
+        }
+        Err(fault) => {
+            append(&part, into);
+            Err(fault)
+        }
+    }
+}
+
 /// Loads so many elements of 1, 2, 4 or 8 bytes, upwards from an address, by the system bus: one access for each, in order, up to and with the
 /// first that lies outside memory. Behind `Memory` of an element `into` holds those in front of it; behind a fault of the link it holds a front of
-/// those that were loaded. Each read of the data starts the next access; where one came too early, the rest are loaded one by one
+/// those that were loaded. Each read of the data starts the next access; where one came too early, each of the rest is awaited
 /// (RISC-V Debug Specification 1.0, "System Bus Access").
 pub fn bus_load_block<D: Dmi>(
     link: &mut D,
@@ -44,6 +116,8 @@ pub fn bus_load_block<D: Dmi>(
     ensures loaded { OnOk result (OnChip (BusBlockLoadedAt size address into.new.items) (D.seen link.old) (D.seen link.new)) }
     ensures loads { OnOk result (BusLoads size address (told (D.seen link.old)) into.new.items (told (D.seen link.new))) }
     ensures refused { IfErr result (IfMemory (BusLoadsRefused size address into.new.items (told (D.seen link.old)) (told (D.seen link.new)))) }
+    ensures few { OnOk result (DidAtMost sbcs_address (3 * count + 24) (told (D.seen link.old)) (told (D.seen link.new))) }
+    ensures few_failed { IfErr result (IfUnbroken (DidAtMost sbcs_address (3 * count + 24) (told (D.seen link.old)) (told (D.seen link.new)))) }
     ensures left { IfErr result (BusBlockLoadLeft size address count into.new.items (D.seen link.old).far (D.seen link.new).far) }
     ensures causes { IfErr result (Fails BusCauses (D.seen link.old) (D.seen link.new)) }
     ensures cut { IfErr result (IfCut (Leaves (BusBlockLoadCut size address count into.new.items) (D.seen link.old).far (D.seen link.new).far)) }
@@ -51,19 +125,17 @@ pub fn bus_load_block<D: Dmi>(
     ensures ready_again { IfErr result (IfMemory (IsReady (D.seen link.new).far)) }
     ensures keeps { Keeps access_why (D.seen link.old) (D.seen link.new) result }
 {
-    load_run(link, size, address, count, into)?;
-    let done = into.len() as u16;
-    'elements: for number in done..count {
-        let at = element(size, address, number, count);
-        let value = bus_load(link, size, at)?;
-        into.push(value);
+    load_runs(link, size, address, count, into)?;
+    if into.len() as u16 == count {
+        return Ok(());
     }
+    load_awaited(link, size, address, count, into)?;
     Ok(())
 }
 
 /// Stores the lowest 1, 2, 4 or 8 bytes of a value so many times, upwards from an address, by the system bus: one access for each, in order, up to
 /// and with the first that lies outside memory. Behind `Memory` of an element those in front of it are stored. Each write of the data starts the next
-/// access; where one came too early, the rest are stored one by one (RISC-V Debug Specification 1.0, "System Bus Access").
+/// access; where one came too early, each of the rest is awaited (RISC-V Debug Specification 1.0, "System Bus Access").
 pub fn bus_store_block<D: Dmi>(
     link: &mut D,
     size: Size,
@@ -80,6 +152,8 @@ pub fn bus_store_block<D: Dmi>(
     ensures stored { OnOk result (OnChip (BusBlockStoredAt size address value count) (D.seen link.old) (D.seen link.new)) }
     ensures stores { OnOk result (BusStores size address value (told (D.seen link.old)) count (told (D.seen link.new))) }
     ensures refused { IfErr result (IfMemory (BusStoresRefused size address value count (told (D.seen link.old)) (told (D.seen link.new)))) }
+    ensures few { OnOk result (DidAtMost sbcs_address (3 * count + 24) (told (D.seen link.old)) (told (D.seen link.new))) }
+    ensures few_failed { IfErr result (IfUnbroken (DidAtMost sbcs_address (3 * count + 24) (told (D.seen link.old)) (told (D.seen link.new)))) }
     ensures left { IfErr result (BusBlockStoreLeft size address count value (D.seen link.old).far (D.seen link.new).far) }
     ensures causes { IfErr result (Fails BusCauses (D.seen link.old) (D.seen link.new)) }
     ensures cut { IfErr result (IfCut (Leaves (BusBlockStoreCut size address value count) (D.seen link.old).far (D.seen link.new).far)) }
@@ -88,9 +162,9 @@ pub fn bus_store_block<D: Dmi>(
     ensures keeps { Keeps access_why (D.seen link.old) (D.seen link.new) result }
 {
     let done = store_run(link, size, address, count, value)?;
-    'elements: for number in done..count {
-        let at = element(size, address, number, count);
-        bus_store(link, size, at, value)?;
+    if done == count {
+        return Ok(());
     }
+    store_awaited(link, size, address, done, count, value)?;
     Ok(())
 }

@@ -7,12 +7,14 @@ ghost use Rattle.debug_model.specs.Command.{all_addresses, most_elements};
 ghost use Rattle.debug_model.specs.Kept.{CanCall, Keeps};
 ghost use Rattle.debug_model.specs.Told.{IsReady};
 ghost use Rattle.probe_access.specs.Accesses.{IfMemory};
-ghost use Rattle.probe_access.specs.BusBlockRuns.{BusCauses, BusLoads, BusLoadsRefused};
+ghost use Rattle.probe_access.specs.BusBlockRuns.{BusCauses, RunRefused};
 ghost use Rattle.probe_access.specs.Blocks.{element_at};
 ghost use Rattle.probe_access.specs.BusBlocks.{BusBlockLoadCut, BusBlockLoadLeft, BusBlockLoadedAt};
 ghost use Rattle.probe_access.specs.BusStreams.{HandOutFell, HandedOut, RunFailed, RunFell, RunLoads, RunRead};
 ghost use Rattle.probe_access.specs.BusRuns.{bus_collided, bus_error, outside_error};
 ghost use Rattle.probe_access.specs.Cuts.{IfCut, Leaves};
+ghost use Rattle.debug_model.specs.Addresses.{sbcs_address};
+ghost use Rattle.probe_access.specs.Spent.{DidAtMost, IfUnbroken};
 ghost use Rattle.probe_access.specs.Faults.{access_why};
 ghost use Rattle.probe_run.specs.Told.{Fails, OnChip, told};
 
@@ -172,8 +174,10 @@ pub fn load_run<D: Dmi>(
     requires empty { into.old.items ≡ [] }
     ensures most { OnOk result (length into.new.items ≤ count) }
     ensures loaded { OnOk result (OnChip (BusBlockLoadedAt size address into.new.items) (D.seen link.old) (D.seen link.new)) }
-    ensures loads { OnOk result (BusLoads size address (told (D.seen link.old)) into.new.items (told (D.seen link.new))) }
-    ensures refused { IfErr result (IfMemory (BusLoadsRefused size address into.new.items (told (D.seen link.old)) (told (D.seen link.new)))) }
+    ensures loads { OnOk result (RunLoads size address count into.new.items (told (D.seen link.old)) (told (D.seen link.new))) }
+    ensures refused { IfErr result (IfMemory (RunRefused size address into.new.items (told (D.seen link.old)) (told (D.seen link.new)))) }
+    ensures few { OnOk result (DidAtMost sbcs_address (2 * count + 9) (told (D.seen link.old)) (told (D.seen link.new))) }
+    ensures few_failed { IfErr result (IfUnbroken (DidAtMost sbcs_address (2 * count + 9) (told (D.seen link.old)) (told (D.seen link.new)))) }
     ensures left { IfErr result (BusBlockLoadLeft size address count into.new.items (D.seen link.old).far (D.seen link.new).far) }
     ensures causes { IfErr result (Fails BusCauses (D.seen link.old) (D.seen link.new)) }
     ensures cut { IfErr result (IfCut (Leaves (BusBlockLoadCut size address count into.new.items) (D.seen link.old).far (D.seen link.new).far)) }

@@ -49,7 +49,12 @@ fn storing_of(size: Size) -> u32
 }
 
 /// Writes what stays throughout a run: `sbcs`, the address, and the upper half of the value.
-fn start_stores<D: Dmi>(link: &mut D, size: Size, address: u64, value: u64) -> Result<(), DmiFault>
+pub fn start_stores<D: Dmi>(
+    link: &mut D,
+    size: Size,
+    address: u64,
+    value: u64,
+) -> Result<(), DmiFault>
     requires callable { CanCall (D.seen link.old) }
     ensures did { OnOk result (Did (told (D.seen link.old)) (stores_started size address value) (told (D.seen link.new))) }
     ensures broke { IfErr result (Breaks (BrokeIn (Starting (stores_started size address value))) (D.seen link.old) (D.seen link.new)) }

@@ -130,6 +130,7 @@ pub fn read_call<D: Dmi>(
     requires room { length into.old.items + number ≤ most_elements }
     ensures read { OnOk result (MoreRead size number into.old.items into.new.items (told (D.seen link.old)) (told (D.seen link.new))) }
     ensures broke { IfErr result (Breaks (BrokeIn (Among (ReadingData number))) (D.seen link.old) (D.seen link.new)) }
+    ensures unchanged { IfErr result (λ fault. into.new.items ≡ into.old.items) }
     ensures keeps { Keeps Some (D.seen link.old) (D.seen link.new) result }
 {
     let mut operations = [DmiOp::Read(Sbdata0::ADDRESS); OPERATIONS_MOST];

@@ -10,8 +10,10 @@ mod bus;
 #[cfg(test)]
 mod bus_block_tests;
 mod bus_blocks;
+mod bus_load_awaits;
 mod bus_parts;
 mod bus_runs;
+mod bus_store_awaits;
 mod bus_store_runs;
 mod bus_streams;
 #[cfg(test)]

@@ -1,64 +1,24 @@
-use Rattle.std.proofs.Common.{◌∙◌, arith}
+use Rattle.std.proofs.Common.{◌≢◌, ◌≤◌, ◌<◌, ◌+◌, ◌-◌, ◌*◌, ℕ, subst, arith}
+use Rattle.debug_model.specs.Scan.{WhereTold}
 use Rattle.probe_run.specs.Told.{told}
-use Rattle.probe_access.proofs.BusBlockCauses.{bus_causes_behind, bus_store_causes, bus_stores_calls, bus_stores_more, bus_stores_stop}
-use Rattle.probe_access.proofs.BusBlockCutClauses.{bus_store_block_cut}
-use Rattle.probe_access.proofs.BusBlockTold.{bus_store_further_at, bus_store_left_at}
+use Rattle.probe_access.specs.BusBlockRuns.{BusStores}
+use Rattle.probe_access.specs.BusBlocks.{BusBlockStoredAt}
+use Rattle.probe_access.proofs.BusStoreAwaitFaults.{await_causes, await_cut, await_left, await_ready, await_refused}
+use Rattle.probe_access.proofs.BusStoreAwaitTold.{stores_awaited}
 use Rattle.probe_access.proofs.BusStoreCauses.{fell_causes, fell_cut, fell_left, fell_ready, fell_refused, stores_heard}
-use Rattle.probe_access.proofs.BusStoreOutcomes.{stores_told}
+use Rattle.probe_access.proofs.BusStoreOutcomes.{stores_few, stores_told}
+use Rattle.probe_access.proofs.BusSpent.{
+  awaited_stores_failed,
+  awaited_stores_spent,
+  run_stores_spent,
+  stores_fell_spent,
+  unbroken_behind,
+  unbroken_more,
+  within_more,
+  within_then,
+}
 use Rattle.probe_access.proofs.RegisterCalls.{err_failed}
 use Rattle.probe_access.proofs.bus_blocks.bus_store_block.Goals as goal
-
-pub elements-init : goal.elements-init
-elements-init g c =
-    let told_stored = stores_told c.args.size c.args.address c.args.value c.args.count c.in_ok-done.done _ _ (told (g.D.Dmi.seen c.store_run.new.link))
-    c.requires.ready c.requires.aligned c.requires.ends c.requires.room c.requires.some c.in_ok-done.ensures.stores in
-    record {
-      stored = told_stored.stored;
-      stores = stores_heard c.args.size c.args.address c.args.value c.args.count c.in_ok-done.done (told (g.D.Dmi.seen c.args.link.now))
-          (told (g.D.Dmi.seen c.store_run.new.link)) c.in_ok-done.ensures.stores;
-      ready = told_stored.ready;
-      stands = c.in_ok-done.ensures.keeps.behind;
-      later = c.store_run.ensures.keeps.later;
-      fixed = c.store_run.ensures.keeps.fixed;
-    }
-
-pub elements-preserved : goal.elements-preserved
-elements-preserved g c = record {
-  stored = bus_store_further_at c.args.size c.args.address c.element-at.result c.args.value c.elements.number _ _ _ c.element-at.ensures
-      c.elements.invariant.stored c.in_ok-bus_store.ensures.stored;
-  stores = bus_stores_more c.args.size c.args.address c.element-at.result c.args.value c.elements.number _ _ _ c.element-at.ensures
-      c.elements.invariant.stores c.in_ok-bus_store.ensures.ran;
-  ready = c.in_ok-bus_store.ensures.ready;
-  stands = c.in_ok-bus_store.ensures.keeps.behind;
-  later = omega (arith, c.elements.invariant.later, c.bus_store.ensures.keeps.later);
-  fixed = c.bus_store.ensures.keeps.fixed ∙ c.elements.invariant.fixed;
-}
-
-pub returns-in_err-bus_store-clause-left : goal.returns-in_err-bus_store-clause-left
-returns-in_err-bus_store-clause-left g c =
-    err_failed c.from_residual-in_err-bus_store.result c.in_err-bus_store.field-0.0 _ c.from_residual-in_err-bus_store.ensures.1
-    (bus_store_left_at c.args.size c.args.address c.args.count c.element-at.result c.args.value c.elements.number _ _ _ c.in_err-bus_store.field-0.0
-    c.element-at.ensures c.elements.invariant.stored c.elements-test.true c.in_err-bus_store.ensures.left)
-
-pub returns-in_err-bus_store-clause-causes : goal.returns-in_err-bus_store-clause-causes
-returns-in_err-bus_store-clause-causes g c =
-    err_failed c.from_residual-in_err-bus_store.result c.in_err-bus_store.field-0.0 _ c.from_residual-in_err-bus_store.ensures.1
-    (bus_causes_behind _ _ _ (bus_stores_calls c.args.size c.args.address c.args.value _ c.elements.number _ c.elements.invariant.stores) _ _ _
-    c.in_err-bus_store.field-0.0 c.elements.invariant.later c.bus_store.ensures.keeps.later
-    (bus_store_causes c.args.size c.element-at.result c.args.value _ _ _ _ c.in_err-bus_store.field-0.0 c.bus_store.ensures.keeps.later
-    c.in_err-bus_store.ensures.failed))
-
-pub returns-in_err-bus_store-clause-cut : goal.returns-in_err-bus_store-clause-cut
-returns-in_err-bus_store-clause-cut g c =
-    err_failed c.from_residual-in_err-bus_store.result c.in_err-bus_store.field-0.0 _ c.from_residual-in_err-bus_store.ensures.1
-    (bus_store_block_cut c.args.size c.args.address c.args.value c.args.count c.element-at.result c.elements.number _ _ _
-    c.in_err-bus_store.field-0.0 c.element-at.ensures c.elements-test.true c.elements.invariant.stored c.in_err-bus_store.ensures.cut)
-
-pub returns-in_err-bus_store-clause-refused : goal.returns-in_err-bus_store-clause-refused
-returns-in_err-bus_store-clause-refused g c =
-    err_failed c.from_residual-in_err-bus_store.result c.in_err-bus_store.field-0.0 _ c.from_residual-in_err-bus_store.ensures.1
-    (bus_stores_stop c.args.size c.args.address c.element-at.result c.args.value c.args.count c.elements.number _ _ _ _ _ c.in_err-bus_store.field-0.0
-    c.element-at.ensures c.elements-test.true c.elements.invariant.stores c.in_err-bus_store.ensures.failed)
 
 pub returns-in_err-done-clause-refused : goal.returns-in_err-done-clause-refused
 returns-in_err-done-clause-refused g c =
@@ -89,3 +49,157 @@ returns-in_err-done-clause-ready_again g c =
     err_failed c.from_residual.result c.in_err-done.field-0.0 _ c.from_residual.ensures.1
     (fell_ready c.args.size c.args.address c.args.value c.args.count _ _ _ _ (told (g.D.Dmi.seen c.store_run.new.link))
     c.in_err-done.field-0.0 c.requires.ready c.requires.aligned c.requires.ends c.requires.room c.requires.some c.in_err-done.ensures.fell)
+
+below_count : (done count : ℕ) → done ≤ count → done ≢ count → done < count
+below_count done count within other = omega (arith, within, other)
+
+pub returns-then-done-count-clause-stored : goal.returns-then-done-count-clause-stored
+returns-then-done-count-clause-stored g c =
+    subst (λ n. WhereTold (BusBlockStoredAt c.args.size c.args.address c.args.value n) (g.D.Dmi.seen c.args.link.now).far
+    (g.D.Dmi.seen c.store_run.new.link).far) c.if-done-count.true
+    (stores_told c.args.size c.args.address c.args.value c.args.count c.in_ok-done.done _ _ (told (g.D.Dmi.seen c.store_run.new.link))
+    c.requires.ready c.requires.aligned c.requires.ends c.requires.room c.requires.some c.in_ok-done.ensures.stores).stored
+
+pub returns-then-done-count-clause-stores : goal.returns-then-done-count-clause-stores
+returns-then-done-count-clause-stores g c =
+    subst (λ n. BusStores c.args.size c.args.address c.args.value (told (g.D.Dmi.seen c.args.link.now)) n (told (g.D.Dmi.seen c.store_run.new.link)))
+    c.if-done-count.true
+    (stores_heard c.args.size c.args.address c.args.value c.args.count c.in_ok-done.done (told (g.D.Dmi.seen c.args.link.now))
+    (told (g.D.Dmi.seen c.store_run.new.link)) c.in_ok-done.ensures.stores)
+
+pub returns-then-done-count-clause-ready : goal.returns-then-done-count-clause-ready
+returns-then-done-count-clause-ready g c =
+    (stores_told c.args.size c.args.address c.args.value c.args.count c.in_ok-done.done _ _ (told (g.D.Dmi.seen c.store_run.new.link))
+    c.requires.ready c.requires.aligned c.requires.ends c.requires.room c.requires.some c.in_ok-done.ensures.stores).ready
+
+pub returns-clause-stored : goal.returns-clause-stored
+returns-clause-stored g c =
+    (stores_awaited c.args.size c.args.address c.args.value c.args.count c.in_ok-done.done _ (told (g.D.Dmi.seen c.store_run.new.link))
+    (told (g.D.Dmi.seen c.store_awaited.new.link))
+    (stores_told c.args.size c.args.address c.args.value c.args.count c.in_ok-done.done _ _ (told (g.D.Dmi.seen c.store_run.new.link))
+    c.requires.ready c.requires.aligned c.requires.ends c.requires.room c.requires.some c.in_ok-done.ensures.stores).stored
+    (stores_told c.args.size c.args.address c.args.value c.args.count c.in_ok-done.done _ _ (told (g.D.Dmi.seen c.store_run.new.link))
+    c.requires.ready c.requires.aligned c.requires.ends c.requires.room c.requires.some c.in_ok-done.ensures.stores).ready
+    c.requires.aligned c.requires.ends
+    (below_count c.in_ok-done.done c.args.count
+    (stores_few c.args.size c.args.address c.args.value c.args.count c.in_ok-done.done (told (g.D.Dmi.seen c.args.link.now))
+    (told (g.D.Dmi.seen c.store_run.new.link)) c.in_ok-done.ensures.stores) c.if-done-count.false)
+    c.in_ok-store_awaited.ensures.stored).stored
+
+pub returns-clause-ready : goal.returns-clause-ready
+returns-clause-ready g c =
+    (stores_awaited c.args.size c.args.address c.args.value c.args.count c.in_ok-done.done _ (told (g.D.Dmi.seen c.store_run.new.link))
+    (told (g.D.Dmi.seen c.store_awaited.new.link))
+    (stores_told c.args.size c.args.address c.args.value c.args.count c.in_ok-done.done _ _ (told (g.D.Dmi.seen c.store_run.new.link))
+    c.requires.ready c.requires.aligned c.requires.ends c.requires.room c.requires.some c.in_ok-done.ensures.stores).stored
+    (stores_told c.args.size c.args.address c.args.value c.args.count c.in_ok-done.done _ _ (told (g.D.Dmi.seen c.store_run.new.link))
+    c.requires.ready c.requires.aligned c.requires.ends c.requires.room c.requires.some c.in_ok-done.ensures.stores).ready
+    c.requires.aligned c.requires.ends
+    (below_count c.in_ok-done.done c.args.count
+    (stores_few c.args.size c.args.address c.args.value c.args.count c.in_ok-done.done (told (g.D.Dmi.seen c.args.link.now))
+    (told (g.D.Dmi.seen c.store_run.new.link)) c.in_ok-done.ensures.stores) c.if-done-count.false)
+    c.in_ok-store_awaited.ensures.stored).ready
+
+pub returns-clause-stores : goal.returns-clause-stores
+returns-clause-stores g c =
+    BusStores.awaited c.in_ok-done.done c.args.count (told (g.D.Dmi.seen c.store_run.new.link)) _
+    (stores_heard c.args.size c.args.address c.args.value c.args.count c.in_ok-done.done (told (g.D.Dmi.seen c.args.link.now))
+    (told (g.D.Dmi.seen c.store_run.new.link)) c.in_ok-done.ensures.stores)
+    c.in_ok-store_awaited.ensures.stored
+
+pub returns-in_err-store_awaited-clause-refused : goal.returns-in_err-store_awaited-clause-refused
+returns-in_err-store_awaited-clause-refused g c =
+    err_failed c.from_residual-in_err-store_awaited.result c.in_err-store_awaited.field-0.0 _ c.from_residual-in_err-store_awaited.ensures.1
+    (await_refused c.args.size c.args.address c.args.value c.in_ok-done.done c.args.count _ _ (told (g.D.Dmi.seen c.args.link.now))
+    (told (g.D.Dmi.seen c.store_run.new.link)) (told (g.D.Dmi.seen c.store_awaited.new.link)) c.in_err-store_awaited.field-0.0
+    (stores_heard c.args.size c.args.address c.args.value c.args.count c.in_ok-done.done (told (g.D.Dmi.seen c.args.link.now))
+    (told (g.D.Dmi.seen c.store_run.new.link)) c.in_ok-done.ensures.stores)
+    c.in_err-store_awaited.ensures.failed)
+
+pub returns-in_err-store_awaited-clause-causes : goal.returns-in_err-store_awaited-clause-causes
+returns-in_err-store_awaited-clause-causes g c =
+    err_failed c.from_residual-in_err-store_awaited.result c.in_err-store_awaited.field-0.0 _ c.from_residual-in_err-store_awaited.ensures.1
+    (await_causes c.args.size c.args.address c.args.value c.in_ok-done.done c.args.count _ _ _ (told (g.D.Dmi.seen c.args.link.now))
+    (told (g.D.Dmi.seen c.store_run.new.link)) (told (g.D.Dmi.seen c.store_awaited.new.link)) c.in_err-store_awaited.field-0.0
+    c.store_run.ensures.keeps.later c.store_awaited.ensures.keeps.later
+    (stores_heard c.args.size c.args.address c.args.value c.args.count c.in_ok-done.done (told (g.D.Dmi.seen c.args.link.now))
+    (told (g.D.Dmi.seen c.store_run.new.link)) c.in_ok-done.ensures.stores)
+    c.in_err-store_awaited.ensures.failed)
+
+pub returns-in_err-store_awaited-clause-left : goal.returns-in_err-store_awaited-clause-left
+returns-in_err-store_awaited-clause-left g c =
+    err_failed c.from_residual-in_err-store_awaited.result c.in_err-store_awaited.field-0.0 _ c.from_residual-in_err-store_awaited.ensures.1
+    (await_left c.args.size c.args.address c.args.value c.in_ok-done.done c.args.count _ _ _ (told (g.D.Dmi.seen c.store_run.new.link))
+    (told (g.D.Dmi.seen c.store_awaited.new.link)) c.in_err-store_awaited.field-0.0
+    (stores_told c.args.size c.args.address c.args.value c.args.count c.in_ok-done.done _ _ (told (g.D.Dmi.seen c.store_run.new.link))
+    c.requires.ready c.requires.aligned c.requires.ends c.requires.room c.requires.some c.in_ok-done.ensures.stores).stored
+    (stores_told c.args.size c.args.address c.args.value c.args.count c.in_ok-done.done _ _ (told (g.D.Dmi.seen c.store_run.new.link))
+    c.requires.ready c.requires.aligned c.requires.ends c.requires.room c.requires.some c.in_ok-done.ensures.stores).ready
+    c.requires.aligned c.requires.ends
+    (below_count c.in_ok-done.done c.args.count
+    (stores_few c.args.size c.args.address c.args.value c.args.count c.in_ok-done.done (told (g.D.Dmi.seen c.args.link.now))
+    (told (g.D.Dmi.seen c.store_run.new.link)) c.in_ok-done.ensures.stores) c.if-done-count.false)
+    c.in_err-store_awaited.ensures.failed)
+
+pub returns-in_err-store_awaited-clause-cut : goal.returns-in_err-store_awaited-clause-cut
+returns-in_err-store_awaited-clause-cut g c =
+    err_failed c.from_residual-in_err-store_awaited.result c.in_err-store_awaited.field-0.0 _ c.from_residual-in_err-store_awaited.ensures.1
+    (await_cut c.args.size c.args.address c.args.value c.in_ok-done.done c.args.count _ _ _ (told (g.D.Dmi.seen c.store_run.new.link))
+    (told (g.D.Dmi.seen c.store_awaited.new.link)) c.in_err-store_awaited.field-0.0
+    (stores_told c.args.size c.args.address c.args.value c.args.count c.in_ok-done.done _ _ (told (g.D.Dmi.seen c.store_run.new.link))
+    c.requires.ready c.requires.aligned c.requires.ends c.requires.room c.requires.some c.in_ok-done.ensures.stores).stored
+    (stores_told c.args.size c.args.address c.args.value c.args.count c.in_ok-done.done _ _ (told (g.D.Dmi.seen c.store_run.new.link))
+    c.requires.ready c.requires.aligned c.requires.ends c.requires.room c.requires.some c.in_ok-done.ensures.stores).ready
+    c.requires.aligned c.requires.ends
+    (below_count c.in_ok-done.done c.args.count
+    (stores_few c.args.size c.args.address c.args.value c.args.count c.in_ok-done.done (told (g.D.Dmi.seen c.args.link.now))
+    (told (g.D.Dmi.seen c.store_run.new.link)) c.in_ok-done.ensures.stores) c.if-done-count.false)
+    c.in_err-store_awaited.ensures.failed)
+
+pub returns-in_err-store_awaited-clause-ready_again : goal.returns-in_err-store_awaited-clause-ready_again
+returns-in_err-store_awaited-clause-ready_again g c =
+    err_failed c.from_residual-in_err-store_awaited.result c.in_err-store_awaited.field-0.0 _ c.from_residual-in_err-store_awaited.ensures.1
+    (await_ready c.args.size c.args.address c.args.value c.in_ok-done.done c.args.count _ _ _ (told (g.D.Dmi.seen c.store_run.new.link))
+    (told (g.D.Dmi.seen c.store_awaited.new.link)) c.in_err-store_awaited.field-0.0
+    (stores_told c.args.size c.args.address c.args.value c.args.count c.in_ok-done.done _ _ (told (g.D.Dmi.seen c.store_run.new.link))
+    c.requires.ready c.requires.aligned c.requires.ends c.requires.room c.requires.some c.in_ok-done.ensures.stores).stored
+    (stores_told c.args.size c.args.address c.args.value c.args.count c.in_ok-done.done _ _ (told (g.D.Dmi.seen c.store_run.new.link))
+    c.requires.ready c.requires.aligned c.requires.ends c.requires.room c.requires.some c.in_ok-done.ensures.stores).ready
+    c.requires.aligned c.requires.ends
+    (below_count c.in_ok-done.done c.args.count
+    (stores_few c.args.size c.args.address c.args.value c.args.count c.in_ok-done.done (told (g.D.Dmi.seen c.args.link.now))
+    (told (g.D.Dmi.seen c.store_run.new.link)) c.in_ok-done.ensures.stores) c.if-done-count.false)
+    c.in_err-store_awaited.ensures.failed)
+
+pub returns-in_err-done-clause-few_failed : goal.returns-in_err-done-clause-few_failed
+returns-in_err-done-clause-few_failed g c =
+    err_failed c.from_residual.result c.in_err-done.field-0.0 _ c.from_residual.ensures.1
+    (unbroken_more (c.args.count + 9) (3 * c.args.count + 24) (told (g.D.Dmi.seen c.args.link.now)) (told (g.D.Dmi.seen c.store_run.new.link))
+    c.in_err-done.field-0.0 (omega arith)
+    (stores_fell_spent c.args.size c.args.address c.args.value c.args.count _ _ (told (g.D.Dmi.seen c.args.link.now))
+    (told (g.D.Dmi.seen c.store_run.new.link)) c.in_err-done.field-0.0 c.in_err-done.ensures.fell))
+
+pub returns-then-done-count-clause-few : goal.returns-then-done-count-clause-few
+returns-then-done-count-clause-few g c =
+    within_more (c.args.count + 9) (3 * c.args.count + 24) (told (g.D.Dmi.seen c.args.link.now)) (told (g.D.Dmi.seen c.store_run.new.link)) (omega arith)
+    (run_stores_spent c.args.size c.args.address c.args.value c.args.count c.in_ok-done.done (told (g.D.Dmi.seen c.args.link.now))
+    (told (g.D.Dmi.seen c.store_run.new.link)) c.in_ok-done.ensures.stores)
+
+pub returns-clause-few : goal.returns-clause-few
+returns-clause-few g c =
+    within_then (c.args.count + 9) ((c.args.count - c.in_ok-done.done) + 4) (3 * c.args.count + 24) (told (g.D.Dmi.seen c.args.link.now))
+    (told (g.D.Dmi.seen c.store_run.new.link)) (told (g.D.Dmi.seen c.store_awaited.new.link)) (omega arith)
+    (run_stores_spent c.args.size c.args.address c.args.value c.args.count c.in_ok-done.done (told (g.D.Dmi.seen c.args.link.now))
+    (told (g.D.Dmi.seen c.store_run.new.link)) c.in_ok-done.ensures.stores)
+    (awaited_stores_spent c.args.size c.args.address c.args.value c.in_ok-done.done c.args.count (told (g.D.Dmi.seen c.store_run.new.link))
+    (told (g.D.Dmi.seen c.store_awaited.new.link)) c.in_ok-store_awaited.ensures.stored)
+
+pub returns-in_err-store_awaited-clause-few_failed : goal.returns-in_err-store_awaited-clause-few_failed
+returns-in_err-store_awaited-clause-few_failed g c =
+    err_failed c.from_residual-in_err-store_awaited.result c.in_err-store_awaited.field-0.0 _ c.from_residual-in_err-store_awaited.ensures.1
+    (unbroken_behind (c.args.count + 9) ((c.args.count - c.in_ok-done.done) + 5) (3 * c.args.count + 24) (told (g.D.Dmi.seen c.args.link.now))
+    (told (g.D.Dmi.seen c.store_run.new.link)) (told (g.D.Dmi.seen c.store_awaited.new.link)) c.in_err-store_awaited.field-0.0 (omega arith)
+    (run_stores_spent c.args.size c.args.address c.args.value c.args.count c.in_ok-done.done (told (g.D.Dmi.seen c.args.link.now))
+    (told (g.D.Dmi.seen c.store_run.new.link)) c.in_ok-done.ensures.stores)
+    (awaited_stores_failed c.args.size c.args.address c.args.value c.in_ok-done.done c.args.count _ _ (told (g.D.Dmi.seen c.store_run.new.link))
+    (told (g.D.Dmi.seen c.store_awaited.new.link)) c.in_err-store_awaited.field-0.0 c.in_err-store_awaited.ensures.failed))
