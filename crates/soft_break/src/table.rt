@@ -5,11 +5,11 @@ ghost use Rattle.rv_model.specs.Size.{count_of};
 ghost use Rattle.debug_model.specs.SoftCommand.{IsSoftAddress};
 ghost use Rattle.soft_laws.specs.Lowered.{merged, merged_byte, written_table};
 ghost use Rattle.soft_laws.specs.Shown.{shown_byte, shown_value};
-ghost use Rattle.soft_laws.specs.SoftBreaks.{is_listed, meets};
+ghost use Rattle.soft_laws.specs.SoftBreaks.{is_listed, meets, meets_some};
 ghost use Rattle.soft_laws.specs.SoftDebugger.{most_planted};
 ghost use Rattle.soft_break.specs.Patches.{IsSameTable, Upwards, no_patches, original_of, table_of, with_patch, without_patch};
 
-use crate::bytes::{byte_of, covers, with_byte};
+use crate::bytes::{byte_of, covers, has_common, with_byte};
 use arrayvec::ArrayVec;
 use rv_model::Size;
 use std::marker::Model;
@@ -88,6 +88,16 @@ impl SoftTable {
         self.merge_bytes(size.count(), addr, value)
     }
 
+    /// Whether an element of memory has a byte in common with a word at which a breakpoint is set.
+    pub fn meets(&self, size: Size, addr: u64) -> bool
+        ensures { result ≡ meets_some self.now.addresses addr (count_of size) }
+    {
+        match self.place_beside(size, addr) {
+            Some(_) => true,
+            None => false,
+        }
+    }
+
     /// So many bytes from an address on, as a user sees them.
     fn hide_bytes(&self, count: u8, addr: u64, read: u64) -> u64
         requires some { (1 ≤ count) × (count ≤ 8) }
@@ -157,6 +167,17 @@ impl SoftTable {
             .as_slice()
             .iter()
             .position(|address| covers(*address, at))
+    }
+
+    /// The place of the first breakpoint whose word has a byte in common with an element of memory.
+    fn place_beside(&self, size: Size, addr: u64) -> Option<usize>
+        ensures place { result ≡ position (λ a. meets a addr (count_of size)) self.now.addresses }
+        ensures inside { IfSome result (λ place. place < length self.now.addresses) }
+    {
+        self.addresses
+            .as_slice()
+            .iter()
+            .position(|address| has_common(*address, size, addr))
     }
 
     /// The word that the breakpoint at an address has taken the place of.
