@@ -224,11 +224,17 @@ fn arms_where_there_is_no_tinfo(rt: HostRuntime) {
         0, 0, EXCEPTION, EXCEPTION, // tinfo
         IDLE, IDLE, IDLE, // tdata2, tdata1, tselect
     ];
-    assert_eq!(rt; play(Call::Break, &words, words.len(), &[]), Ok(Answer::Armed(0)));
+    assert_eq!(rt;
+        play(Call::Break, &words, words.len(), &[]),
+        Ok(Answer::Armed(0))
+    );
     let count = words.len() - 1;
     assert_eq!(rt; play(Call::Count, &words, count, &[]), Ok(Answer::Armed(0)));
     for cut in 11..words.len() {
-        assert_eq!(rt; play(Call::Break, &words, cut, &[]), Err(TrigFault::Access(ENDED)));
+        assert_eq!(rt;
+            play(Call::Break, &words, cut, &[]),
+            Err(TrigFault::Access(ENDED))
+        );
     }
 }
 

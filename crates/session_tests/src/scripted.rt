@@ -83,7 +83,9 @@ fn mip_is_asked_for_once(rt: HostRuntime) -> Result<(), Fail> {
         &rt,
         rt.alloc(),
         "reg mip\nreg mip\nreg mip 1\n",
-        &[STOPPED, ENDED, 8, 0, STOPPED, REFUSED, STOPPED, ENDED, ENDED, 0, 0],
+        &[
+            STOPPED, ENDED, 8, 0, STOPPED, REFUSED, STOPPED, ENDED, ENDED, 0, 0,
+        ],
         Ended::WithErrors,
         "mip 0x0000000000000008\nerror: register mip refused\nmip 0x0000000000000000\n",
     )
