@@ -60,7 +60,7 @@ fn put_byte<K: Sink>(out: &mut K, first: u64, row: &mut Row, byte: u8) -> Result
 }
 
 /// Puts the rows of these bytes, upwards from an address; what a value holds above its byte is left out.
-fn put_bytes<K: Sink>(out: &mut K, address: u64, values: &[u64]) -> Result<(), Failure>
+pub fn put_bytes<K: Sink>(out: &mut K, address: u64, values: &[u64]) -> Result<(), Failure>
     requires ends { address + length values.now ≤ all_addresses }
     ensures put { OnOk result (K.contents out.new ≡ grown (text_of_all (byte_rows address [] (map (cut_to B1) values.now))) (K.contents out.old)) }
     ensures cut { OnErr result

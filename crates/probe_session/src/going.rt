@@ -44,7 +44,7 @@ fn is_behind_step<D: Dmi>(link: &mut D, halted: &Halted, known: Known) -> Result
 }
 
 /// Makes one single step of a halted hart, of which this is known. Where it halted behind a whole step none of its slots is visited.
-fn step_once<D: Dmi>(link: &mut D, halted: Halted, known: Known) -> Result<Halted, Failure>
+pub fn step_once<D: Dmi>(link: &mut D, halted: Halted, known: Known) -> Result<Halted, Failure>
     requires serving { AttachedHalted halted.number (D.seen link.old) }
     requires knows { Knows known halted.number (D.seen link.old).far }
     ensures went { OnOk result (Went (at_one halted.number) (behind_one halted.number) [] (told (D.seen link.old)) (told (D.seen link.new))) }
@@ -114,7 +114,7 @@ fn has_any(view: &SlotView) -> bool
 }
 
 /// Lets a hart go that none of its slots holds back.
-fn free_line<D: Dmi>(link: &mut D, halted: Halted) -> Result<Line, Failure>
+pub fn free_line<D: Dmi>(link: &mut D, halted: Halted) -> Result<Line, Failure>
     requires serving { AttachedHalted halted.number (D.seen link.old) }
     ensures went { IfOk result (λ line. Went (λ next. ready halted.number (going halted.number (say Resumed next)))
         (ends_with (said_by line)) [] (told (D.seen link.old)) (told (D.seen link.new))) }
@@ -147,7 +147,7 @@ fn let_go_over_line<D: Dmi>(link: &mut D, halted: Halted) -> Result<Line, Failur
 }
 
 /// Lets a halted hart go, of which this is known, and steps it over its slots first that have a hit. Where it halted behind a whole step none is visited.
-pub(crate) fn let_go_line<D: Dmi>(
+pub fn let_go_line<D: Dmi>(
     link: &mut D,
     halted: Halted,
     known: Known,

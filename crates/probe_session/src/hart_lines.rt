@@ -22,7 +22,7 @@ use probe_run::Halted;
 use rv_model::{Cause, Dcsr, SlotSet, register_number};
 
 /// The line that says where the hart stands, and why; beside a trigger, with the slots that have a hit.
-pub(crate) fn stop_line<D: Dmi>(link: &mut D, halted: &Halted) -> Result<Line, Failure>
+pub fn stop_line<D: Dmi>(link: &mut D, halted: &Halted) -> Result<Line, Failure>
     requires serving { AttachedHalted halted.now.number (D.seen link.old) }
     ensures went { IfOk result
         (λ line. Went (at_stop_line halted.now.number) (ends_with (said_by line)) [] (told (D.seen link.old))

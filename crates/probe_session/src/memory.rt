@@ -19,7 +19,7 @@ use probe_run::Halted;
 use rv_model::Size;
 
 /// The elements of a block that were loaded, as they were handed out: a register may hold more above the size.
-pub(crate) type Elements = ArrayVec<u64, ELEMENTS_MOST>;
+pub type Elements = ArrayVec<u64, ELEMENTS_MOST>;
 
 /// Loads a block by the halted hart. It answers whether memory held it whole: where not, `into` holds the elements in front of the one that was refused.
 pub(crate) fn load<D: Dmi>(

@@ -15,7 +15,7 @@ use probe_run::{Halted, Seen, Target};
 
 /// What the Look of a command for a halted hart comes to.
 #[derive(Drop)]
-pub(crate) enum Met {
+pub enum Met {
     /// The hart is halted.
     At(Halted),
     /// It is not there, or runs: this line says so.
@@ -23,7 +23,7 @@ pub(crate) enum Met {
 }
 
 /// The Look of a command for a halted hart, of which this is known.
-pub(crate) fn meet<D: Dmi>(
+pub fn meet<D: Dmi>(
     link: &mut D,
     target: &Target,
     hart: u16,

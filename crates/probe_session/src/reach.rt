@@ -25,7 +25,7 @@ use rv_model::Size;
 
 /// How a command reaches memory.
 #[derive(Drop)]
-pub(crate) enum Reach {
+pub enum Reach {
     /// By this hart, which is halted.
     Hart(Halted),
     /// By the system bus.
@@ -34,7 +34,7 @@ pub(crate) enum Reach {
 
 /// What a command for memory comes to in front of its accesses.
 #[derive(Drop)]
-pub(crate) enum Reached {
+pub enum Reached {
     /// They can be made.
     By(Reach),
     /// There is no halted hart to make them: this line says so.
@@ -43,7 +43,7 @@ pub(crate) enum Reached {
 
 impl Session {
     /// The way to memory that was chosen, with a Look of the hart where that needs one.
-    pub(crate) fn reach<D: Dmi>(&self, link: &mut D) -> Result<Reached, Failure>
+    pub fn reach<D: Dmi>(&self, link: &mut D) -> Result<Reached, Failure>
         requires serving { Attached (D.seen link.old) }
         requires knows { Knows self.now.known self.now.hart (D.seen link.old).far }
         ensures reached { IfOk result
@@ -63,7 +63,7 @@ impl Session {
 }
 
 /// Loads a block. It answers whether memory held it whole: where not, `into` holds the elements in front of the one that was refused.
-pub(crate) fn load_by<D: Dmi>(
+pub fn load_by<D: Dmi>(
     link: &mut D,
     reach: &Reach,
     size: Size,
@@ -88,7 +88,7 @@ pub(crate) fn load_by<D: Dmi>(
 }
 
 /// Stores a value to each element of a block. It answers the address of the first element that memory refused: none where it took them all.
-pub(crate) fn store_by<D: Dmi>(
+pub fn store_by<D: Dmi>(
     link: &mut D,
     reach: &Reach,
     size: Size,

@@ -33,7 +33,7 @@ use probe_access::{cut_to, is_aligned};
 use rv_model::Size;
 
 /// Puts the line of each element, upwards from an address; what a value holds above the size is left out.
-fn put_values<K: Sink>(out: &mut K, size: Size, address: u64, values: &[u64]) -> Result<(), Failure>
+pub fn put_values<K: Sink>(out: &mut K, size: Size, address: u64, values: &[u64]) -> Result<(), Failure>
     requires ends { address + length values.now * count_of size ≤ all_addresses }
     ensures put { OnOk result (K.contents out.new ≡ grown (text_of_all (element_lines size address (map (cut_to size) values.now))) (K.contents out.old)) }
     ensures cut { OnErr result

@@ -31,7 +31,7 @@ pub(crate) fn reg_or_none<D: Dmi>(
 }
 
 /// The value of a register of the halted hart, which each hart has: a chip that refuses to read it loses the session.
-pub(crate) fn reg<D: Dmi>(link: &mut D, halted: &Halted, number: u16) -> Result<u64, Failure>
+pub fn reg<D: Dmi>(link: &mut D, halted: &Halted, number: u16) -> Result<u64, Failure>
     requires serving { AttachedHalted halted.now.number (D.seen link.old) }
     ensures got { IfOk result
         (λ value. Got halted.now.number number value (told (D.seen link.old)) (told (D.seen link.new))) }

@@ -21,7 +21,7 @@ use jt_base::Sink;
 use probe_run::ConnectFault;
 
 /// How a session ends at its script's end.
-fn finished(has_errors: bool) -> Ended
+pub fn finished(has_errors: bool) -> Ended
     ensures { result ≡ graded has_errors }
 {
     if has_errors {
@@ -32,7 +32,7 @@ fn finished(has_errors: bool) -> Ended
 }
 
 /// How a session ends whose chip was not opened.
-fn unopened(fault: ConnectFault) -> Ended
+pub fn unopened(fault: ConnectFault) -> Ended
     ensures { result ≡ ended_unopened fault }
 {
     match fault {

@@ -1,2 +1,3 @@
 pub mod Patches
 pub mod Calls
+pub mod Preparing

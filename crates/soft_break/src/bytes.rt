@@ -1,8 +1,11 @@
 ghost use Rattle.std.specs.Prelude.{◌≡◌, ◌<◌};
 ghost use Rattle.std.specs.Int.{byte_at};
+ghost use Rattle.rv_model.specs.Size.{count_of};
 ghost use Rattle.abstract_debugger.specs.Plan.{patch_bytes};
 ghost use Rattle.soft_laws.specs.SoftBreaks.{meets};
 ghost use Rattle.soft_break.specs.Patches.{IsReplaced};
+
+use rv_model::Size;
 
 /// The bytes of a word.
 pub(crate) const WORD_BYTES: u64 = 4;
@@ -12,6 +15,17 @@ pub(crate) fn covers(address: u64, at: u64) -> bool
     ensures { result ≡ meets address at 1 }
 {
     address <= at && at - address < WORD_BYTES
+}
+
+/// Whether the word at an address has a byte in common with an element of memory.
+pub(crate) fn has_common(address: u64, size: Size, at: u64) -> bool
+    ensures { result ≡ meets address at (count_of size) }
+{
+    if at < address {
+        address - at < u64::from(size.count())
+    } else {
+        at - address < WORD_BYTES
+    }
 }
 
 /// One byte of a word, the lowest at place 0.

@@ -6,10 +6,12 @@ mod bytes;
 mod fault;
 mod lifting;
 mod planting;
+mod preparing;
 mod table;
 #[cfg(test)]
 mod tests;
 
 pub use fault::SoftFault;
 pub use lifting::Uncovered;
+pub use preparing::{Prepared, prepare};
 pub use table::{PATCHES_MOST, SoftTable};

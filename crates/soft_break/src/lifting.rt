@@ -8,7 +8,7 @@ ghost use Rattle.probe_run.specs.Told.{Fails, OnChip, Serving, told};
 ghost use Rattle.probe_access.specs.Accesses.{AccessLeft, IfMemory, StoreRefused, StoredAt};
 ghost use Rattle.probe_access.specs.Cuts.{AccessLeftOff, IfCut, Leaves, Scratched, StoreLeaves};
 ghost use Rattle.probe_access.specs.Faults.{access_why};
-ghost use Rattle.probe_access.specs.MemoryRuns.{Around, AroundFailed, Loses, StoreFailedInside, StoredInside};
+ghost use Rattle.probe_access.specs.MemoryRuns.{Around, AroundFailed, StoreFailedInside, StoredInside};
 ghost use Rattle.soft_laws.specs.SoftBreaks.{ebreak_word, is_listed};
 ghost use Rattle.soft_break.specs.Patches.{original_of};
 
@@ -73,9 +73,8 @@ impl Uncovered {
         Ok(())
     }
 
-    /// Gives the breakpoint up, with the fault that loses the session.
-    pub fn abandon(self, fault: AccessFault) -> AccessFault
-        requires loses { Loses fault }
+    /// Gives the breakpoint up, with the fault that lost the session.
+    pub fn abandon<E>(self, fault: E) -> E
         ensures { result ≡ fault }
     {
         let Uncovered { at: _ } = self;

@@ -5,11 +5,11 @@ ghost use Rattle.rv_model.specs.Size.{count_of};
 ghost use Rattle.debug_model.specs.SoftCommand.{IsSoftAddress};
 ghost use Rattle.soft_laws.specs.Lowered.{merged, merged_byte, written_table};
 ghost use Rattle.soft_laws.specs.Shown.{shown_byte, shown_value};
-ghost use Rattle.soft_laws.specs.SoftBreaks.{is_listed, meets};
+ghost use Rattle.soft_laws.specs.SoftBreaks.{is_listed, meets, meets_some};
 ghost use Rattle.soft_laws.specs.SoftDebugger.{most_planted};
 ghost use Rattle.soft_break.specs.Patches.{IsSameTable, Upwards, no_patches, original_of, table_of, with_patch, without_patch};
 
-use crate::bytes::{byte_of, covers, with_byte};
+use crate::bytes::{byte_of, covers, has_common, with_byte};
 use arrayvec::ArrayVec;
 use rv_model::Size;
 use std::marker::Model;
@@ -86,6 +86,16 @@ impl SoftTable {
         ensures taken { IsSameTable (written_table addr (count_of size) value (table_of self.old)) (table_of self.new) }
     {
         self.merge_bytes(size.count(), addr, value)
+    }
+
+    /// Whether an element of memory has a byte in common with a word at which a breakpoint is set.
+    pub fn meets(&self, size: Size, addr: u64) -> bool
+        ensures { result ≡ meets_some self.now.addresses addr (count_of size) }
+    {
+        self.addresses
+            .as_slice()
+            .iter()
+            .any(|address| has_common(*address, size, addr))
     }
 
     /// So many bytes from an address on, as a user sees them.

@@ -1,0 +1,165 @@
+//! `read`, `write` and `dump`: a user reads and writes the words themselves, and not the ebreaks that stand in their place.
+
+use crate::session::SoftSession;
+use debug_model::Dmi;
+use jt_base::Sink;
+use printed_lines::Line;
+use probe_access::{cut_to, is_aligned};
+use probe_session::{
+    Elements, Failure, Known, LostCause, Odd, Reach, Reached, load_by, put_bytes, put_line,
+    put_values, store_by,
+};
+use rv_model::Size;
+use soft_break::SoftTable;
+
+/// The way to memory that was chosen; what is known of the hart is not known behind it.
+fn reach<D: Dmi>(soft: &mut SoftSession, link: &mut D) -> Result<Reached, Failure> {
+    let reached = soft.session.reach(link)?;
+    soft.session.known = Known::Nothing;
+    Ok(reached)
+}
+
+/// Puts the words themselves in the place of the ebreaks in the elements that were loaded from an address upwards.
+fn hide_all(table: &SoftTable, size: Size, address: u64, values: &mut Elements) {
+    'hiding: for number in 0..values.len() {
+        let at = address + number as u64 * u64::from(size.count());
+        let held = values.as_slice()[number];
+        values.as_mut_slice()[number] = table.hide(size, at, cut_to(size, held));
+    }
+}
+
+/// The line of an element that memory refused. Memory has held each word at which a breakpoint is set: a chip that refuses one is lost.
+fn refusal(table: &SoftTable, size: Size, at: u64) -> Result<Line, Failure> {
+    if table.meets(size, at) {
+        return Err(Failure::Lost(LostCause::Odd(Odd::Refusal)));
+    }
+    Ok(Line::MemoryFault(at))
+}
+
+/// Loads elements, and puts the line of each that memory held. It answers whether memory refused one, which is then said in the last line.
+fn put_elements<D: Dmi, K: Sink>(
+    link: &mut D,
+    reach: &Reach,
+    table: &SoftTable,
+    size: Size,
+    address: u64,
+    count: u16,
+    out: &mut K,
+) -> Result<bool, Failure> {
+    if !is_aligned(size, address) {
+        put_line(out, &Line::MemoryFault(address))?;
+        return Ok(true);
+    }
+    let mut values = Elements::new();
+    let is_whole = load_by(link, reach, size, address, count, &mut values)?;
+    hide_all(table, size, address, &mut values);
+    put_values(out, size, address, values.as_slice())?;
+    if is_whole {
+        return Ok(false);
+    }
+    let at = address + values.len() as u64 * u64::from(size.count());
+    put_line(out, &refusal(table, size, at)?)?;
+    Ok(true)
+}
+
+/// Loads bytes, and puts the rows of those that memory held. It answers whether memory refused one, which is then said in the last line.
+fn put_rows<D: Dmi, K: Sink>(
+    link: &mut D,
+    reach: &Reach,
+    table: &SoftTable,
+    address: u64,
+    count: u16,
+    out: &mut K,
+) -> Result<bool, Failure> {
+    let mut values = Elements::new();
+    let is_whole = load_by(link, reach, Size::B1, address, count, &mut values)?;
+    hide_all(table, Size::B1, address, &mut values);
+    put_bytes(out, address, values.as_slice())?;
+    if is_whole {
+        return Ok(false);
+    }
+    let at = address + values.len() as u64;
+    put_line(out, &refusal(table, Size::B1, at)?)?;
+    Ok(true)
+}
+
+/// So many elements of memory from an address upwards.
+pub(crate) fn read<D: Dmi, K: Sink>(
+    soft: &mut SoftSession,
+    link: &mut D,
+    size: Size,
+    address: u64,
+    count: u16,
+    out: &mut K,
+) -> Result<bool, Failure> {
+    match reach(soft, link)? {
+        Reached::Says(line) => {
+            put_line(out, &line)?;
+            Ok(true)
+        }
+        Reached::By(way) => put_elements(link, &way, &soft.table, size, address, count, out),
+    }
+}
+
+/// So many bytes of memory from an address upwards, sixteen to a row.
+pub(crate) fn dump<D: Dmi, K: Sink>(
+    soft: &mut SoftSession,
+    link: &mut D,
+    address: u64,
+    count: u16,
+    out: &mut K,
+) -> Result<bool, Failure> {
+    match reach(soft, link)? {
+        Reached::Says(line) => {
+            put_line(out, &line)?;
+            Ok(true)
+        }
+        Reached::By(way) => put_rows(link, &way, &soft.table, address, count, out),
+    }
+}
+
+/// Stores a value so many times from an address upwards, each time with the ebreaks that stand there, and says how many, or where memory refused one.
+fn written_line<D: Dmi>(
+    link: &mut D,
+    reach: &Reach,
+    table: &mut SoftTable,
+    size: Size,
+    address: u64,
+    value: u64,
+    count: u16,
+) -> Result<Line, Failure> {
+    if !is_aligned(size, address) {
+        return Ok(Line::MemoryFault(address));
+    }
+    'storing: for number in 0..count {
+        let at = address + u64::from(number) * u64::from(size.count());
+        let stored = table.merge(size, at, value);
+        if let Some(refused) = store_by(link, reach, size, at, 1, stored)? {
+            return refusal(table, size, refused);
+        }
+    }
+    Ok(Line::Wrote(count))
+}
+
+/// A value, stored so many times from an address upwards.
+pub(crate) fn write<D: Dmi>(
+    soft: &mut SoftSession,
+    link: &mut D,
+    size: Size,
+    address: u64,
+    value: u64,
+    count: u16,
+) -> Result<Line, Failure> {
+    match reach(soft, link)? {
+        Reached::Says(line) => Ok(line),
+        Reached::By(way) => written_line(
+            link,
+            &way,
+            &mut soft.table,
+            size,
+            address,
+            value,
+            count,
+        ),
+    }
+}

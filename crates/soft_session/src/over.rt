@@ -1,0 +1,72 @@
+//! A single step of a hart at a breakpoint: the word is put back for the step alone.
+
+use debug_model::Dmi;
+use probe_run::Halted;
+use probe_session::{Failure, Known, reg, step_once};
+use probe_trig::shows_step;
+use rv_model::register_number;
+use soft_break::SoftTable;
+
+/// A hart behind a single step.
+#[derive(Drop)]
+pub(crate) struct Stepped {
+    pub(crate) halted: Halted,
+    /// Whether it halted for no other cause than the step.
+    pub(crate) is_whole: bool,
+}
+
+/// The breakpoint that a halted hart stands at, if any.
+pub(crate) fn breakpoint_at<D: Dmi>(
+    link: &mut D,
+    halted: &Halted,
+    table: &SoftTable,
+) -> Result<Option<u64>, Failure> {
+    if table.patches().is_empty() {
+        return Ok(None);
+    }
+    let pc = reg(link, halted, register_number::DPC)?;
+    if table.planted(pc) {
+        Ok(Some(pc))
+    } else {
+        Ok(None)
+    }
+}
+
+/// Makes one single step of a halted hart.
+pub(crate) fn step_plainly<D: Dmi>(link: &mut D, halted: Halted) -> Result<Stepped, Failure> {
+    let again = step_once(link, halted, Known::Nothing)?;
+    let word = reg(link, &again, register_number::DCSR)?;
+    Ok(Stepped {
+        halted: again,
+        is_whole: shows_step(word),
+    })
+}
+
+/// Makes one single step of a halted hart that stands at a breakpoint.
+pub(crate) fn step_over_breakpoint<D: Dmi>(
+    link: &mut D,
+    halted: Halted,
+    table: &SoftTable,
+    at: u64,
+) -> Result<Stepped, Failure> {
+    let lifted = table.uncover(link, &halted, at)?;
+    match step_plainly(link, halted) {
+        Ok(stepped) => {
+            lifted.cover(link, &stepped.halted)?;
+            Ok(stepped)
+        }
+        Err(failure) => Err(lifted.abandon(failure)),
+    }
+}
+
+/// Makes one single step of a halted hart, which may stand at a breakpoint.
+pub(crate) fn one_step<D: Dmi>(
+    link: &mut D,
+    halted: Halted,
+    table: &SoftTable,
+) -> Result<Stepped, Failure> {
+    match breakpoint_at(link, &halted, table)? {
+        Some(at) => step_over_breakpoint(link, halted, table, at),
+        None => step_plainly(link, halted),
+    }
+}
