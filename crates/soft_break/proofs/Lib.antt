@@ -3,3 +3,5 @@ pub mod Covering
 pub mod Lists
 pub mod Views
 pub mod PlantSteps
+pub mod LeadLemmas
+pub mod PrepareSteps

@@ -1,5 +1,6 @@
 -- The table's fields and what callers see of them.
-use Rattle.std.proofs.Common.{◌≡◌, ◌∙◌, ◌+◌, ◌-◌, ◌*◌, ◌/◌, ◌%◌, ◌^◌, ◌<◌, ◌≤◌, ℕ, zero, suc, true, false, List, [], ◌∷◌, length, All, Option, Some, None}
+use Rattle.std.proofs.Common.{◌≡◌, ◌∙◌, ◌+◌, ◌-◌, ◌*◌, ◌/◌, ◌%◌, ◌^◌, ◌<◌, ◌≤◌, ℕ, zero, suc, Bool, true, false, not, cond, ◌||◌, List, [], ◌∷◌, length, All}
+use Rattle.std.proofs.Common.{Option, Some, None}
 use Rattle.std.proofs.Common.{get_or, is_some, refl, sym, ap, subst, arith, if◌then◌else◌, set, unwrap_or}
 use Rattle.std.specs.Prelude.{◌==◌}
 use Rattle.std.specs.FinMap.{get, insert}
@@ -246,6 +247,32 @@ listed_found cs a i e less = sym (is_listed-at cs a i (place_found (λ c. a == c
 
 pub listed_none : (cs : List ℕ) (a : ℕ) → position (λ c. a == c) cs ≡ None → false ≡ is_listed cs a
 listed_none cs a e = sym (not_listed cs a (no_place (λ c. a == c) cs e))
+
+-- ---- an element beside a word
+
+meets_at : (cs : List ℕ) (a n i : ℕ) → position_or_len (λ c. meets c a n) cs ≡ i → i < length cs → meets_some cs a n ≡ true
+meets_at [] a n i is less = absurd (omega (arith, less))
+meets_at (c ∷ cs) a n i is less = by (meets c a n) refl is (λ h. meets_at cs a n (position_or_len (λ c. meets c a n) cs) refl h)
+  where
+    by : (b : Bool) → meets c a n ≡ b → cond (not b) (1 + position_or_len (λ c. meets c a n) cs) 0 ≡ i
+        → (position_or_len (λ c. meets c a n) cs < length cs → meets_some cs a n ≡ true) → (meets c a n || meets_some cs a n) ≡ true
+    by true m e later = ap (λ x. x || meets_some cs a n) m
+    by false m e later = ap (λ x. x || meets_some cs a n) m ∙ later (omega (arith, e, less))
+
+meets_none : (cs : List ℕ) (a n : ℕ) → position_or_len (λ c. meets c a n) cs ≡ length cs → meets_some cs a n ≡ false
+meets_none [] a n is = refl
+meets_none (c ∷ cs) a n is = by (meets c a n) refl is (meets_none cs a n)
+  where
+    by : (b : Bool) → meets c a n ≡ b → cond (not b) (1 + position_or_len (λ c. meets c a n) cs) 0 ≡ suc (length cs)
+        → (position_or_len (λ c. meets c a n) cs ≡ length cs → meets_some cs a n ≡ false) → (meets c a n || meets_some cs a n) ≡ false
+    by true m e later = absurd (omega (arith, e))
+    by false m e later = ap (λ x. x || meets_some cs a n) m ∙ later (omega (arith, e))
+
+pub beside_found : (cs : List ℕ) (a n i : ℕ) → position (λ c. meets c a n) cs ≡ Some i → i < length cs → true ≡ meets_some cs a n
+beside_found cs a n i e less = sym (meets_at cs a n i (place_found (λ c. meets c a n) cs i e) less)
+
+pub beside_none : (cs : List ℕ) (a n : ℕ) → position (λ c. meets c a n) cs ≡ None → false ≡ meets_some cs a n
+beside_none cs a n e = sym (meets_none cs a n (no_place (λ c. meets c a n) cs e))
 
 -- ---- a changed list
 

@@ -1,3 +1,4 @@
 pub mod Patches
 pub mod Calls
 pub mod Preparing
+pub mod Leading

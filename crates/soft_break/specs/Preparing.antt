@@ -1,6 +1,6 @@
 -- Making each halted hart halt at an ebreak: which calls on the link it is, what happens at a told chip, and where it broke off.
 -- RISC-V Debug Specification 1.0, "Debug Control and Status". That the harts are looked at from 0 up to the first absent one is this project's own.
-use Rattle.std.specs.Prelude.{◌≡◌, ◌≤◌, ◌<◌, ℕ, suc, true}
+use Rattle.std.specs.Prelude.{◌≡◌, ◌≤◌, ◌<◌, ℕ, suc, true, false}
 use Rattle.rv_model.specs.Dcsr.{dcsr_of_word, dcsr_word}
 use Rattle.rv_model.specs.DebugRegisters.{dcsr_number}
 use Rattle.debug_model.specs.Scan.{WhereTold}

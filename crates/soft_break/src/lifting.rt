@@ -10,6 +10,7 @@ ghost use Rattle.probe_access.specs.Cuts.{AccessLeftOff, IfCut, Leaves, Scratche
 ghost use Rattle.probe_access.specs.Faults.{access_why};
 ghost use Rattle.probe_access.specs.MemoryRuns.{Around, AroundFailed, StoreFailedInside, StoredInside};
 ghost use Rattle.soft_laws.specs.SoftBreaks.{ebreak_word, is_listed};
+ghost use Rattle.soft_break.specs.Leading.{CoverLeads, LiftLeads};
 ghost use Rattle.soft_break.specs.Patches.{original_of};
 
 use crate::table::{EBREAK, SoftTable};
@@ -26,6 +27,7 @@ pub struct Uncovered {
 
 impl SoftTable {
     /// Stores the word that the breakpoint at an address has taken the place of, by the halted hart, which is selected: one access. A breakpoint is set there.
+    #[tactic(auto, using(crate::proofs::LeadLemmas::lift_leads))]
     pub fn uncover<D: Dmi>(
         &self,
         link: &mut D,
@@ -37,6 +39,7 @@ impl SoftTable {
         requires planted { is_listed self.now.addresses at ≡ true }
         ensures uncovered { IfOk result (λ uncovered. uncovered.at ≡ at) }
         ensures stored { OnOk result (OnChip (StoredAt B4 at (original_of at self.now)) (D.seen link.old) (D.seen link.new)) }
+        ensures leads { OnOk result (LiftLeads at (original_of at self.now) (D.seen link.old).far (D.seen link.new).far) }
         ensures around { OnOk result (Around (StoredInside B4 at (original_of at self.now)) (told (D.seen link.old)) (told (D.seen link.new))) }
         ensures left { IfErr result (AccessLeft (StoreRefused B4 at) at (D.seen link.old).far (D.seen link.new).far) }
         ensures failed { IfErr result (Fails (AroundFailed (StoredInside B4 at (original_of at self.now)) (StoreFailedInside B4 at (original_of at self.now)))
@@ -54,10 +57,12 @@ impl SoftTable {
 
 impl Uncovered {
     /// Stores an ebreak there again, by the halted hart, which is selected: one access.
+    #[tactic(auto, using(crate::proofs::LeadLemmas::cover_leads))]
     pub fn cover<D: Dmi>(self, link: &mut D, h: &Halted) -> Result<(), AccessFault>
         requires callable { CanCall (D.seen link.old) }
         requires serving { Serving h.now.number (D.seen link.old).far }
         ensures stored { OnOk result (OnChip (StoredAt B4 self.at ebreak_word) (D.seen link.old) (D.seen link.new)) }
+        ensures leads { OnOk result (CoverLeads self.at (D.seen link.old).far (D.seen link.new).far) }
         ensures around { OnOk result (Around (StoredInside B4 self.at ebreak_word) (told (D.seen link.old)) (told (D.seen link.new))) }
         ensures left { IfErr result (AccessLeft (StoreRefused B4 self.at) self.at (D.seen link.old).far (D.seen link.new).far) }
         ensures failed { IfErr result (Fails (AroundFailed (StoredInside B4 self.at ebreak_word) (StoreFailedInside B4 self.at ebreak_word))

@@ -12,6 +12,7 @@ ghost use Rattle.probe_access.specs.Cuts.{BusLeftOff, IfCut, Leaves, StoreLeaves
 ghost use Rattle.probe_access.specs.Faults.{access_why};
 ghost use Rattle.soft_break.specs.Calls.{IfAccess, IfStill, PlantAnswers, PlantCut, PlantFailed, PlantRefused, PlantTable, Planted, PlantedAt, SoftKeeps};
 ghost use Rattle.soft_break.specs.Calls.{UnplantAnswers, UnplantTable};
+ghost use Rattle.soft_break.specs.Leading.{LiftLeads, PlantLeads};
 ghost use Rattle.soft_break.specs.Patches.{original_of};
 
 use crate::fault::SoftFault;
@@ -63,6 +64,7 @@ impl SoftTable {
     /// Sets a software breakpoint at a word, whose address is a multiple of 4 from 0x80000000: one access reads the word, and another stores an ebreak.
     /// `Set` where one is set there, and else `Full` where 32 are; then no access is made. Behind each fault the table is as it was; behind `Memory`, where the
     /// word lies outside memory, so is the chip.
+    #[tactic(auto, using(crate::proofs::LeadLemmas::plant_leads))]
     pub fn plant<D: Dmi>(&mut self, link: &mut D, at: u64) -> Result<(), SoftFault>
         requires callable { CanCall (D.seen link.old) }
         requires ready { IsReady (D.seen link.old).far }
@@ -70,6 +72,7 @@ impl SoftTable {
         ensures answers { PlantAnswers at self.old result }
         ensures table { PlantTable at self.old self.new result }
         ensures planted_at { OnOk result (OnChip (PlantedAt at (original_of at self.new)) (D.seen link.old) (D.seen link.new)) }
+        ensures leads { OnOk result (PlantLeads at (original_of at self.new) (D.seen link.old).far (D.seen link.new).far) }
         ensures ran { OnOk result (Planted at (original_of at self.new) (told (D.seen link.old)) (told (D.seen link.new))) }
         ensures left { IfErr result (IfAccess (AccessLeft (PlantRefused at) at (D.seen link.old).far (D.seen link.new).far)) }
         ensures failed { IfErr result (IfAccess (Fails (PlantFailed at) (D.seen link.old) (D.seen link.new))) }
@@ -95,6 +98,7 @@ impl SoftTable {
 
     /// Takes the software breakpoint at a word out: one access stores the word that it has taken the place of. `NotSet` where none is set there; then no access
     /// is made. Behind each fault the table is as it was.
+    #[tactic(auto, using(crate::proofs::LeadLemmas::bus_lift_leads))]
     pub fn unplant<D: Dmi>(&mut self, link: &mut D, at: u64) -> Result<(), SoftFault>
         requires callable { CanCall (D.seen link.old) }
         requires ready { IsReady (D.seen link.old).far }

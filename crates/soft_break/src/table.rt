@@ -92,10 +92,10 @@ impl SoftTable {
     pub fn meets(&self, size: Size, addr: u64) -> bool
         ensures { result ≡ meets_some self.now.addresses addr (count_of size) }
     {
-        self.addresses
-            .as_slice()
-            .iter()
-            .any(|address| has_common(*address, size, addr))
+        match self.place_beside(size, addr) {
+            Some(_) => true,
+            None => false,
+        }
     }
 
     /// So many bytes from an address on, as a user sees them.
@@ -167,6 +167,17 @@ impl SoftTable {
             .as_slice()
             .iter()
             .position(|address| covers(*address, at))
+    }
+
+    /// The place of the first breakpoint whose word has a byte in common with an element of memory.
+    fn place_beside(&self, size: Size, addr: u64) -> Option<usize>
+        ensures place { result ≡ position (λ a. meets a addr (count_of size)) self.now.addresses }
+        ensures inside { IfSome result (λ place. place < length self.now.addresses) }
+    {
+        self.addresses
+            .as_slice()
+            .iter()
+            .position(|address| has_common(*address, size, addr))
     }
 
     /// The word that the breakpoint at an address has taken the place of.

@@ -2,6 +2,7 @@ use Rattle.std.proofs.Common.{◌∙◌, ap, length, subst, sym}
 use Rattle.probe_run.specs.Told.{OnChip, told}
 use Rattle.soft_break.specs.Calls.{Planted, PlantedAt}
 use Rattle.soft_break.specs.Patches.{with_patch}
+use Rattle.soft_break.proofs.LeadLemmas.{plant_leads}
 use Rattle.soft_break.proofs.Views.{room_of}
 use Rattle.soft_break.proofs.table.SoftTable.plant.Goals as goal
 
@@ -20,3 +21,9 @@ pub returns-in-Ok-clause-ran : goal.returns-in-Ok-clause-ran
 returns-in-Ok-clause-ran g c =
     subst (λ v. Planted c.args.at v (told (g.D.Dmi.seen c.args.link.now)) (told (g.D.Dmi.seen c.take_place.new.link))) (sym c.put.ensures.found)
     c.in-Ok.ensures.ran
+
+pub returns-in-Ok-clause-leads : goal.returns-in-Ok-clause-leads
+returns-in-Ok-clause-leads g c =
+    plant_leads c.args.at _ (g.D.Dmi.seen c.args.link.now).far (g.D.Dmi.seen c.take_place.new.link).far c.requires.word
+    (subst (λ v. OnChip (PlantedAt c.args.at v) (g.D.Dmi.seen c.args.link.now) (g.D.Dmi.seen c.take_place.new.link)) (sym c.put.ensures.found)
+    c.in-Ok.ensures.planted_at)
