@@ -106,7 +106,7 @@ pub(crate) fn stepped_line<D: Dmi>(
 }
 
 /// Whether any slot has a hit.
-fn has_any(view: &SlotView) -> bool
+pub fn has_any(view: &SlotView) -> bool
     ensures { result ≡ any_in view.now }
 {
     let hits = view.hits;
@@ -147,7 +147,7 @@ fn let_go_over_line<D: Dmi>(link: &mut D, halted: Halted) -> Result<Line, Failur
 }
 
 /// Lets a halted hart go, of which this is known, and steps it over its slots first that have a hit. Where it halted behind a whole step none is visited.
-pub fn let_go_line<D: Dmi>(
+pub(crate) fn let_go_line<D: Dmi>(
     link: &mut D,
     halted: Halted,
     known: Known,

@@ -44,14 +44,14 @@ use Rattle.soft_break.specs.Leading.{CoverLeads, LeadsTo, LiftLeads, PlantLeads,
 
 -- ---- an object that tells
 
-told_leads : (R : Chip → Option Far → Type 0) (from to : Plan) (old new : Option Far)
+pub told_leads : (R : Chip → Option Far → Type 0) (from to : Plan) (old new : Option Far)
     → ((f : Far) (m : Machine) (sel : ℕ) (way : Way) (o : Origin) (lines : List Line) → Deals m sel way o from lines (target_of (site_of f))
     → R f.live.chip new → At m sel way o to lines (told_target new)) → WhereTold R old new → LeadsTo from to old new
 told_leads R from to None new step w m sel way o lines a = absurd (none-some a.target a.is)
 told_leads R from to (Some f) new step w m sel way o lines a =
     step f m sel way o lines (subst (λ t. Deals m sel way o from lines t) (sym (same_Some (target_of (site_of f)) a.target a.is)) a.holds) w
 
-at_told : (m : Machine) (sel : ℕ) (way : Way) (o : Origin) (p : Plan) (lines : List Line) (far : Far) (new : Option Far) → new ≡ Some far
+pub at_told : (m : Machine) (sel : ℕ) (way : Way) (o : Origin) (p : Plan) (lines : List Line) (far : Far) (new : Option Far) → new ≡ Some far
     → Deals m sel way o p lines (target_of (site_of far)) → At m sel way o p lines (told_target new)
 at_told m sel way o p lines far new is d = record { target = target_of (site_of far); is = ap told_target is; holds = d }
 

@@ -5,3 +5,4 @@ pub mod Views
 pub mod PlantSteps
 pub mod LeadLemmas
 pub mod PrepareSteps
+pub mod RefusedLemmas

@@ -36,3 +36,8 @@ CoverLeads a old new = (original : ℕ) (next : Plan) (t : Table) → LeadsTo (l
 abbrev pub PlantLeads : (a original : ℕ) → (old new : Option Far) → Type 0
 PlantLeads a original old new = (next set : Plan) (t : Table) → AreSoftAddresses t.covered → is_listed t.covered a ≡ false
     → LeadsTo (lower (planting a next set) t) (lower (say (Line.SoftSet a) set) (patched_table true a original t)) old new
+
+-- a breakpoint was to be set outside memory
+abbrev pub RefusalLeads : (a : ℕ) → (old new : Option Far) → Type 0
+RefusalLeads a old new = (next set : Plan) (t : Table) → AreSoftAddresses t.covered → is_listed t.covered a ≡ false
+    → LeadsTo (lower (planting a next set) t) (lower (say (Line.MemoryFault a) next) t) old new

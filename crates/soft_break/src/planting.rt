@@ -12,7 +12,7 @@ ghost use Rattle.probe_access.specs.Cuts.{BusLeftOff, IfCut, Leaves, StoreLeaves
 ghost use Rattle.probe_access.specs.Faults.{access_why};
 ghost use Rattle.soft_break.specs.Calls.{IfAccess, IfStill, PlantAnswers, PlantCut, PlantFailed, PlantRefused, PlantTable, Planted, PlantedAt, SoftKeeps};
 ghost use Rattle.soft_break.specs.Calls.{UnplantAnswers, UnplantTable};
-ghost use Rattle.soft_break.specs.Leading.{LiftLeads, PlantLeads};
+ghost use Rattle.soft_break.specs.Leading.{LiftLeads, PlantLeads, RefusalLeads};
 ghost use Rattle.soft_break.specs.Patches.{original_of};
 
 use crate::fault::SoftFault;
@@ -73,6 +73,8 @@ impl SoftTable {
         ensures table { PlantTable at self.old self.new result }
         ensures planted_at { OnOk result (OnChip (PlantedAt at (original_of at self.new)) (D.seen link.old) (D.seen link.new)) }
         ensures leads { OnOk result (PlantLeads at (original_of at self.new) (D.seen link.old).far (D.seen link.new).far) }
+        ensures leads_refused { IfErr result (IfAccess (IfMemory (RefusalLeads at (D.seen link.old).far (D.seen link.new).far))) }
+        ensures fits { OnOk result (original_of at self.new < 2 ^ 32) }
         ensures ran { OnOk result (Planted at (original_of at self.new) (told (D.seen link.old)) (told (D.seen link.new))) }
         ensures left { IfErr result (IfAccess (AccessLeft (PlantRefused at) at (D.seen link.old).far (D.seen link.new).far)) }
         ensures failed { IfErr result (IfAccess (Fails (PlantFailed at) (D.seen link.old) (D.seen link.new))) }

@@ -1,1 +1,4 @@
 pub mod LowerLemmas
+pub mod TableLemmas
+pub mod LedLemmas
+pub mod SettingSteps

@@ -1,0 +1,5 @@
+pub mod Tables
+pub mod Led
+pub mod Setting
+pub mod Stepping
+pub mod Transcribed

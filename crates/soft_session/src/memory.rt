@@ -1,5 +1,14 @@
 //! `read`, `write` and `dump`: a user reads and writes the words themselves, and not the ebreaks that stand in their place.
 
+ghost use Rattle.std.specs.Prelude.{◌≡◌, ◌≤◌, ◌+◌, ◌*◌, true, length, IfOk, OnOk};
+ghost use Rattle.debug_model.specs.Command.{IsBlock, all_addresses};
+ghost use Rattle.rv_model.specs.Memory.{is_aligned};
+ghost use Rattle.rv_model.specs.Size.{count_of};
+ghost use Rattle.probe_session.specs.declared.known.Known.TheVariants.{Nothing};
+ghost use Rattle.probe_session.specs.Known.{Knows};
+ghost use Rattle.probe_session.specs.Links.{Attached, Goes};
+ghost use Rattle.probe_session.specs.Reach.{AttachedBy, AttachedReached};
+
 use crate::session::SoftSession;
 use debug_model::Dmi;
 use jt_base::Sink;
@@ -13,14 +22,23 @@ use rv_model::Size;
 use soft_break::SoftTable;
 
 /// The way to memory that was chosen; what is known of the hart is not known behind it.
-fn reach<D: Dmi>(soft: &mut SoftSession, link: &mut D) -> Result<Reached, Failure> {
+fn reach<D: Dmi>(soft: &mut SoftSession, link: &mut D) -> Result<Reached, Failure>
+    requires serving { Attached (D.seen link.old) }
+    requires knows { Knows soft.old.session.known soft.old.session.hart (D.seen link.old).far }
+    ensures unknown { OnOk result (soft.new.session.known ≡ Nothing) }
+    ensures keeps { Goes AttachedReached (D.seen link.old) (D.seen link.new) result }
+{
     let reached = soft.session.reach(link)?;
     soft.session.known = Known::Nothing;
     Ok(reached)
 }
 
 /// Puts the words themselves in the place of the ebreaks in the elements that were loaded from an address upwards.
-fn hide_all(table: &SoftTable, size: Size, address: u64, values: &mut Elements) {
+fn hide_all(table: &SoftTable, size: Size, address: u64, values: &mut Elements)
+    requires aligned { is_aligned address size ≡ true }
+    requires ends { address + length values.old.items * count_of size ≤ all_addresses }
+    ensures many { length values.new.items ≡ length values.old.items }
+{
     'hiding: for number in 0..values.len() {
         let at = address + number as u64 * u64::from(size.count());
         let held = values.as_slice()[number];
@@ -45,7 +63,12 @@ fn put_elements<D: Dmi, K: Sink>(
     address: u64,
     count: u16,
     out: &mut K,
-) -> Result<bool, Failure> {
+) -> Result<bool, Failure>
+    requires block { IsBlock (count_of size) address count }
+    requires serving { AttachedBy reach.now (D.seen link.old) }
+    ensures keeps { Goes (λ _. Attached) (D.seen link.old) (D.seen link.new) result }
+    ensures sink_later { K.fault_count out.old ≤ K.fault_count out.new }
+{
     if !is_aligned(size, address) {
         put_line(out, &Line::MemoryFault(address))?;
         return Ok(true);
@@ -70,7 +93,12 @@ fn put_rows<D: Dmi, K: Sink>(
     address: u64,
     count: u16,
     out: &mut K,
-) -> Result<bool, Failure> {
+) -> Result<bool, Failure>
+    requires block { IsBlock 1 address count }
+    requires serving { AttachedBy reach.now (D.seen link.old) }
+    ensures keeps { Goes (λ _. Attached) (D.seen link.old) (D.seen link.new) result }
+    ensures sink_later { K.fault_count out.old ≤ K.fault_count out.new }
+{
     let mut values = Elements::new();
     let is_whole = load_by(link, reach, Size::B1, address, count, &mut values)?;
     hide_all(table, Size::B1, address, &mut values);
@@ -91,7 +119,14 @@ pub(crate) fn read<D: Dmi, K: Sink>(
     address: u64,
     count: u16,
     out: &mut K,
-) -> Result<bool, Failure> {
+) -> Result<bool, Failure>
+    requires block { IsBlock (count_of size) address count }
+    requires serving { Attached (D.seen link.old) }
+    requires knows { Knows soft.old.session.known soft.old.session.hart (D.seen link.old).far }
+    ensures unknown { OnOk result (soft.new.session.known ≡ Nothing) }
+    ensures keeps { Goes (λ _. Attached) (D.seen link.old) (D.seen link.new) result }
+    ensures sink_later { K.fault_count out.old ≤ K.fault_count out.new }
+{
     match reach(soft, link)? {
         Reached::Says(line) => {
             put_line(out, &line)?;
@@ -108,7 +143,14 @@ pub(crate) fn dump<D: Dmi, K: Sink>(
     address: u64,
     count: u16,
     out: &mut K,
-) -> Result<bool, Failure> {
+) -> Result<bool, Failure>
+    requires block { IsBlock 1 address count }
+    requires serving { Attached (D.seen link.old) }
+    requires knows { Knows soft.old.session.known soft.old.session.hart (D.seen link.old).far }
+    ensures unknown { OnOk result (soft.new.session.known ≡ Nothing) }
+    ensures keeps { Goes (λ _. Attached) (D.seen link.old) (D.seen link.new) result }
+    ensures sink_later { K.fault_count out.old ≤ K.fault_count out.new }
+{
     match reach(soft, link)? {
         Reached::Says(line) => {
             put_line(out, &line)?;
@@ -127,7 +169,11 @@ fn written_line<D: Dmi>(
     address: u64,
     value: u64,
     count: u16,
-) -> Result<Line, Failure> {
+) -> Result<Line, Failure>
+    requires block { IsBlock (count_of size) address count }
+    requires serving { AttachedBy reach.now (D.seen link.old) }
+    ensures keeps { Goes (λ _. Attached) (D.seen link.old) (D.seen link.new) result }
+{
     if !is_aligned(size, address) {
         return Ok(Line::MemoryFault(address));
     }
@@ -149,7 +195,13 @@ pub(crate) fn write<D: Dmi>(
     address: u64,
     value: u64,
     count: u16,
-) -> Result<Line, Failure> {
+) -> Result<Line, Failure>
+    requires block { IsBlock (count_of size) address count }
+    requires serving { Attached (D.seen link.old) }
+    requires knows { Knows soft.old.session.known soft.old.session.hart (D.seen link.old).far }
+    ensures unknown { OnOk result (soft.new.session.known ≡ Nothing) }
+    ensures keeps { Goes (λ _. Attached) (D.seen link.old) (D.seen link.new) result }
+{
     match reach(soft, link)? {
         Reached::Says(line) => Ok(line),
         Reached::By(way) => written_line(

@@ -1,5 +1,11 @@
 //! A single step of a hart at a breakpoint: the word is put back for the step alone.
 
+ghost use Rattle.std.specs.Prelude.{◌≡◌, true, IfOk, OnOk};
+ghost use Rattle.probe_run.specs.Told.{told};
+ghost use Rattle.probe_session.specs.Links.{AttachedHalted, Goes};
+ghost use Rattle.soft_laws.specs.SoftBreaks.{is_listed};
+ghost use Rattle.soft_session.specs.Stepping.{OneLed, OverLed, PcRead, StepLed};
+
 use debug_model::Dmi;
 use probe_run::Halted;
 use probe_session::{Failure, Known, reg, step_once};
@@ -20,7 +26,11 @@ pub(crate) fn breakpoint_at<D: Dmi>(
     link: &mut D,
     halted: &Halted,
     table: &SoftTable,
-) -> Result<Option<u64>, Failure> {
+) -> Result<Option<u64>, Failure>
+    requires serving { AttachedHalted halted.now.number (D.seen link.old) }
+    ensures read { IfOk result (PcRead halted.now.number table.now.addresses (told (D.seen link.old)) (told (D.seen link.new))) }
+    ensures keeps { Goes (λ _. AttachedHalted halted.now.number) (D.seen link.old) (D.seen link.new) result }
+{
     if table.patches().is_empty() {
         return Ok(None);
     }
@@ -33,7 +43,12 @@ pub(crate) fn breakpoint_at<D: Dmi>(
 }
 
 /// Makes one single step of a halted hart.
-pub(crate) fn step_plainly<D: Dmi>(link: &mut D, halted: Halted) -> Result<Stepped, Failure> {
+pub(crate) fn step_plainly<D: Dmi>(link: &mut D, halted: Halted) -> Result<Stepped, Failure>
+    requires serving { AttachedHalted halted.number (D.seen link.old) }
+    ensures led { IfOk result (λ s. StepLed halted.number (told (D.seen link.old)) (told (D.seen link.new)) s.is_whole) }
+    ensures hart { IfOk result (λ s. s.halted.number ≡ halted.number) }
+    ensures keeps { Goes (λ _. AttachedHalted halted.number) (D.seen link.old) (D.seen link.new) result }
+{
     let again = step_once(link, halted, Known::Nothing)?;
     let word = reg(link, &again, register_number::DCSR)?;
     Ok(Stepped {
@@ -48,7 +63,13 @@ pub(crate) fn step_over_breakpoint<D: Dmi>(
     halted: Halted,
     table: &SoftTable,
     at: u64,
-) -> Result<Stepped, Failure> {
+) -> Result<Stepped, Failure>
+    requires serving { AttachedHalted halted.number (D.seen link.old) }
+    requires set { is_listed table.now.addresses at ≡ true }
+    ensures led { IfOk result (λ s. OverLed at halted.number table.now (told (D.seen link.old)) (told (D.seen link.new)) s.is_whole) }
+    ensures hart { IfOk result (λ s. s.halted.number ≡ halted.number) }
+    ensures keeps { Goes (λ _. AttachedHalted halted.number) (D.seen link.old) (D.seen link.new) result }
+{
     let lifted = table.uncover(link, &halted, at)?;
     match step_plainly(link, halted) {
         Ok(stepped) => {
@@ -64,7 +85,12 @@ pub(crate) fn one_step<D: Dmi>(
     link: &mut D,
     halted: Halted,
     table: &SoftTable,
-) -> Result<Stepped, Failure> {
+) -> Result<Stepped, Failure>
+    requires serving { AttachedHalted halted.number (D.seen link.old) }
+    ensures led { IfOk result (λ s. OneLed halted.number table.now (told (D.seen link.old)) (told (D.seen link.new)) s.is_whole) }
+    ensures hart { IfOk result (λ s. s.halted.number ≡ halted.number) }
+    ensures keeps { Goes (λ _. AttachedHalted halted.number) (D.seen link.old) (D.seen link.new) result }
+{
     match breakpoint_at(link, &halted, table)? {
         Some(at) => step_over_breakpoint(link, halted, table, at),
         None => step_plainly(link, halted),

@@ -1,5 +1,16 @@
 //! A whole session.
 
+ghost use Rattle.std.specs.Prelude.{◌≡◌, ◌≤◌, true, All};
+ghost use Rattle.debug_model.specs.Kept.{CanCall};
+ghost use Rattle.debug_model.specs.SoftCommand.{IsSoftCommand};
+ghost use Rattle.debug_model.specs.Told.{IsAsLoaded};
+ghost use Rattle.probe_run.specs.Told.{told};
+ghost use Rattle.probe_session.specs.Known.{Knows};
+ghost use Rattle.probe_session.specs.Links.{Attached};
+ghost use Rattle.probe_session.specs.Scripts.{LeavesLink};
+ghost use Rattle.soft_session.specs.Led.{FollowedLed, ended_failing};
+ghost use Rattle.soft_session.specs.Transcribed.{SoftTranscribedAs};
+
 use crate::session::SoftSession;
 use debug_model::{Dmi, SoftCommand, SoftScript};
 use jt_base::Sink;
@@ -7,7 +18,9 @@ use probe_session::{Acted, Ended, Failure, Session, finished, unopened};
 use soft_break::SoftTable;
 
 /// How a session ends whose breakpoints could not be taken out.
-fn ended_by(failure: Failure) -> Ended {
+fn ended_by(failure: Failure) -> Ended
+    ensures { result ≡ ended_failing failure }
+{
     match failure {
         Failure::Wire(fault) => Ended::Wire(fault),
         Failure::Lost(cause) => Ended::Lost(cause),
@@ -21,7 +34,16 @@ fn run_commands<D: Dmi, K: Sink>(
     link: &mut D,
     commands: &[SoftCommand],
     out: &mut K,
-) -> Ended {
+) -> Ended
+    requires within { All IsSoftCommand commands.now }
+    requires serving { Attached (D.seen link.old) }
+    requires knows { Knows begun.session.known begun.session.hart (D.seen link.old).far }
+    ensures followed { FollowedLed commands.now begun (told (D.seen link.old)) (told (D.seen link.new)) (K.contents out.old) (K.contents out.new) result }
+    ensures leaves { LeavesLink result (D.seen link.new) }
+    ensures later { (D.seen link.old).fault_count ≤ (D.seen link.new).fault_count }
+    ensures fixed { (D.seen link.new).fixed ≡ (D.seen link.old).fixed }
+    ensures sink_later { K.fault_count out.old ≤ K.fault_count out.new }
+{
     let mut soft = begun;
     let mut has_errors = false;
     let mut rest = commands;
@@ -48,7 +70,15 @@ fn run_commands<D: Dmi, K: Sink>(
 /// is taken out.
 ///
 /// The link is alive; where it tells its chip, that is as it was loaded, and the link is ready for an operation. It takes no memory.
-pub fn run_soft<D: Dmi, K: Sink>(link: &mut D, script: &SoftScript, out: &mut K) -> Ended {
+pub fn run_soft<D: Dmi, K: Sink>(link: &mut D, script: &SoftScript, out: &mut K) -> Ended
+    requires callable { CanCall (D.seen link.old) }
+    requires loaded { IsAsLoaded (D.seen link.old).far }
+    ensures transcribed { SoftTranscribedAs script.now (K.contents out.old) (K.contents out.new) (D.seen link.old).far (D.seen link.new).far result }
+    ensures leaves { LeavesLink result (D.seen link.new) }
+    ensures later { (D.seen link.old).fault_count ≤ (D.seen link.new).fault_count }
+    ensures fixed { (D.seen link.new).fixed ≡ (D.seen link.old).fixed }
+    ensures sink_later { K.fault_count out.old ≤ K.fault_count out.new }
+{
     match Session::begin(link) {
         Ok(session) => {
             let begun = SoftSession {

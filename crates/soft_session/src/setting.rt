@@ -1,11 +1,22 @@
 //! `soft`, `unsoft`, and the end of a session, which takes every breakpoint out.
 
+ghost use Rattle.std.specs.Prelude.{◌≡◌, ◌≤◌, [], true, false, length, IfOk, IfErr, OnOk};
+ghost use Rattle.debug_model.specs.SoftCommand.{IsSoftAddress};
+ghost use Rattle.debug_model.specs.declared.soft_command.SoftCommand.TheVariants.{Soft, Unsoft};
+ghost use Rattle.probe_run.specs.Told.{told};
+ghost use Rattle.probe_session.specs.declared.known.Known.TheVariants.{Nothing};
+ghost use Rattle.probe_session.specs.Links.{Attached, Goes};
+ghost use Rattle.soft_laws.specs.SoftBreaks.{is_listed};
+ghost use Rattle.soft_session.specs.Led.{LineLed};
+ghost use Rattle.soft_session.specs.Setting.{ClosedLed, PlantedLed, PreparedLed, planted_list};
+
 use crate::session::SoftSession;
 use debug_model::Dmi;
 use printed_lines::Line;
 use probe_access::AccessFault;
+use probe_run::Target;
 use probe_session::{Failure, Known, LostCause, Odd};
-use soft_break::{PATCHES_MOST, Prepared, SoftFault, prepare};
+use soft_break::{PATCHES_MOST, Prepared, SoftFault, SoftTable, prepare};
 
 /// What a fault of a table's call makes of a session where none of memory is its answer.
 fn failure_of(fault: SoftFault) -> Failure {
@@ -17,35 +28,79 @@ fn failure_of(fault: SoftFault) -> Failure {
     }
 }
 
+/// In front of the first breakpoint each hart is made to halt at an ebreak.
+fn prepare_first<D: Dmi>(
+    link: &mut D,
+    target: &Target,
+    table: &SoftTable,
+) -> Result<Prepared, Failure>
+    requires serving { Attached (D.seen link.old) }
+    ensures led { IfOk result (PreparedLed table.now.addresses (told (D.seen link.old)) (told (D.seen link.new))) }
+    ensures keeps { Goes (λ _. Attached) (D.seen link.old) (D.seen link.new) result }
+{
+    if !table.patches().is_empty() {
+        return Ok(Prepared::Ready);
+    }
+    let prepared = prepare(link, target)?;
+    Ok(prepared)
+}
+
+/// Sets a breakpoint where none is, and there is room for one. It answers whether memory held the word.
+fn plant_word<D: Dmi>(link: &mut D, table: &mut SoftTable, at: u64) -> Result<bool, Failure>
+    requires serving { Attached (D.seen link.old) }
+    requires word { IsSoftAddress at }
+    requires free { is_listed table.old.addresses at ≡ false }
+    ensures led { IfOk result (PlantedLed at table.old table.new (told (D.seen link.old)) (told (D.seen link.new))) }
+    ensures list { IfOk result (λ held. table.new.addresses ≡ planted_list at held table.old.addresses) }
+    ensures keeps { Goes (λ _. Attached) (D.seen link.old) (D.seen link.new) result }
+{
+    match table.plant(link, at) {
+        Ok(()) => Ok(true),
+        Err(SoftFault::Access(AccessFault::Memory(_))) => Ok(false),
+        Err(fault) => Err(failure_of(fault)),
+    }
+}
+
 impl SoftSession {
-    /// Sets a breakpoint: in front of the first one each hart is made to halt at an ebreak.
-    pub(crate) fn set<D: Dmi>(&mut self, link: &mut D, at: u64) -> Result<Line, Failure> {
+    /// Sets a breakpoint.
+    pub(crate) fn set<D: Dmi>(&mut self, link: &mut D, at: u64) -> Result<Line, Failure>
+        requires serving { Attached (D.seen link.old) }
+        requires word { IsSoftAddress at }
+        ensures led { IfOk result (LineLed (Soft at) self.old self.new (told (D.seen link.old)) (told (D.seen link.new))) }
+        ensures unknown { self.new.session.known ≡ Nothing }
+        ensures keeps { Goes (λ _. Attached) (D.seen link.old) (D.seen link.new) result }
+    {
+        self.session.known = Known::Nothing;
         if self.table.planted(at) {
             return Ok(Line::SoftIsSet(at));
         }
         if self.table.patches().len() == PATCHES_MOST {
             return Ok(Line::NoFreeSoftBreak);
         }
-        self.session.known = Known::Nothing;
-        if self.table.patches().is_empty() {
-            match prepare(link, &self.session.target)? {
-                Prepared::Ready => {}
-                Prepared::Running(hart) => return Ok(Line::IsRunning(hart)),
+        match prepare_first(link, &self.session.target, &self.table)? {
+            Prepared::Running(hart) => Ok(Line::IsRunning(hart)),
+            Prepared::Ready => {
+                if plant_word(link, &mut self.table, at)? {
+                    Ok(Line::SoftSet(at))
+                } else {
+                    Ok(Line::MemoryFault(at))
+                }
             }
-        }
-        match self.table.plant(link, at) {
-            Ok(()) => Ok(Line::SoftSet(at)),
-            Err(SoftFault::Access(AccessFault::Memory(_))) => Ok(Line::MemoryFault(at)),
-            Err(fault) => Err(failure_of(fault)),
         }
     }
 
     /// Takes a breakpoint out.
-    pub(crate) fn clear<D: Dmi>(&mut self, link: &mut D, at: u64) -> Result<Line, Failure> {
+    pub(crate) fn clear<D: Dmi>(&mut self, link: &mut D, at: u64) -> Result<Line, Failure>
+        requires serving { Attached (D.seen link.old) }
+        requires word { IsSoftAddress at }
+        ensures led { IfOk result (LineLed (Unsoft at) self.old self.new (told (D.seen link.old)) (told (D.seen link.new))) }
+        ensures unknown { self.new.session.known ≡ Nothing }
+        ensures keeps { Goes (λ _. Attached) (D.seen link.old) (D.seen link.new) result }
+    {
+        self.session.known = Known::Nothing;
         if !self.table.planted(at) {
             return Ok(Line::SoftNotSet(at));
         }
-        self.session.known = Known::Nothing;
         match self.table.unplant(link, at) {
             Ok(()) => Ok(Line::SoftClear(at)),
             Err(fault) => Err(failure_of(fault)),
@@ -53,7 +108,13 @@ impl SoftSession {
     }
 
     /// Takes every breakpoint out, upwards.
-    pub(crate) fn close<D: Dmi>(&mut self, link: &mut D) -> Result<(), Failure> {
+    pub(crate) fn close<D: Dmi>(&mut self, link: &mut D) -> Result<(), Failure>
+        requires serving { Attached (D.seen link.old) }
+        ensures led { OnOk result (ClosedLed self.old.table self.new.table (told (D.seen link.old)) (told (D.seen link.new))) }
+        ensures none { OnOk result (self.new.table.addresses ≡ []) }
+        ensures unknown { self.new.session.known ≡ Nothing }
+        ensures keeps { Goes (λ _. Attached) (D.seen link.old) (D.seen link.new) result }
+    {
         self.session.known = Known::Nothing;
         'closing: while let Some(at) = self.table.patches().first().copied() {
             match self.table.unplant(link, at) {

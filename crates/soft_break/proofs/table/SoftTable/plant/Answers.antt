@@ -3,6 +3,7 @@ use Rattle.probe_run.specs.Told.{OnChip, told}
 use Rattle.soft_break.specs.Calls.{Planted, PlantedAt}
 use Rattle.soft_break.specs.Patches.{with_patch}
 use Rattle.soft_break.proofs.LeadLemmas.{plant_leads}
+use Rattle.soft_break.proofs.RefusedLemmas.{refused_leads}
 use Rattle.soft_break.proofs.Views.{room_of}
 use Rattle.soft_break.proofs.table.SoftTable.plant.Goals as goal
 
@@ -27,3 +28,7 @@ returns-in-Ok-clause-leads g c =
     plant_leads c.args.at _ (g.D.Dmi.seen c.args.link.now).far (g.D.Dmi.seen c.take_place.new.link).far c.requires.word
     (subst (λ v. OnChip (PlantedAt c.args.at v) (g.D.Dmi.seen c.args.link.now) (g.D.Dmi.seen c.take_place.new.link)) (sym c.put.ensures.found)
     c.in-Ok.ensures.planted_at)
+
+pub returns-in-Err-clause-leads_refused : goal.returns-in-Err-clause-leads_refused
+returns-in-Err-clause-leads_refused g c =
+    refused_leads c.args.at (g.D.Dmi.seen c.args.link.now).far (g.D.Dmi.seen c.take_place.new.link).far c.in-Err.fault c.requires.word c.in-Err.ensures.left

@@ -1,0 +1,82 @@
+-- Software breakpoints set and taken out, as steps of a session's lowered plan.
+use Rattle.std.proofs.Common.{◌≡◌, ◌∙◌, ◌+◌, ◌<◌, ◌-◌, ℕ, zero, suc, Bool, true, false, List, [], ◌∷◌, Option, refl, sym, ap, subst, arith}
+use Rattle.abstract_debugger.specs.Debugger.{by_state, look}
+use Rattle.abstract_debugger.specs.Lines.{Line}
+use Rattle.abstract_debugger.specs.Plan.{Plan}
+use Rattle.abstract_debugger.specs.Plan.Change.{EbreakHalts}
+use Rattle.abstract_debugger.specs.Plan.Plan.{change, say}
+use Rattle.probe_run.specs.declared.hart.Halted.{Halted}
+use Rattle.probe_run.specs.declared.hart.Seen.{Seen}
+use Rattle.probe_run.specs.declared.hart.Seen.TheVariants as seen
+use Rattle.probe_run.specs.Acts.{Tells}
+use Rattle.probe_session.specs.Calls.{LookMade}
+use Rattle.probe_session.specs.Calls.LookHeard.{selecting}
+use Rattle.probe_session.specs.Goes.{Goes}
+use Rattle.probe_session.specs.Goes.Goes as goes
+use Rattle.probe_session.specs.Led.{Leads}
+use Rattle.probe_session.specs.Places.{idle}
+use Rattle.probe_session.specs.Steps.{Step, behind_look}
+use Rattle.probe_session.proofs.LedSteps.{goes_lead}
+use Rattle.soft_laws.specs.Lowered.{Table, lower}
+use Rattle.soft_laws.specs.SoftDebugger.{most_harts, preparing}
+use Rattle.soft_break.specs.declared.preparing.Prepared.{Prepared}
+use Rattle.soft_break.specs.declared.preparing.Prepared.TheVariants as prepared_as
+use Rattle.soft_break.specs.Preparing.{AllSet, LookOf, PreparedAs, RunsAt, SetBelow}
+use Rattle.soft_session.specs.Led.{at_plan}
+use Rattle.soft_session.specs.Setting.{PreparedLed, behind_looks}
+use Rattle.soft_session.proofs.LowerLemmas.{lower_look_by}
+
+-- ---- the Looks in front of the first one
+
+preparing_suc : (k h : ℕ) (next ready : Plan) (t : Table)
+    → lower (preparing (suc k) h next ready) t
+    ≡ look h (by_state (lower ready t) (lower (say (Line.IsRunning h) next) t) (change (EbreakHalts h true) (lower (preparing k (h + 1) next ready) t)))
+unfolding preparing lower
+preparing_suc k h next ready t = lower_look_by h ready (say (Line.IsRunning h) next) (change (EbreakHalts h true) (preparing k (h + 1) next ready)) t
+
+preparing_zero : (h : ℕ) (next ready : Plan) (t : Table) → lower (preparing zero h next ready) t ≡ lower ready t
+unfolding preparing
+preparing_zero h next ready t = refl
+
+look_made : (h : ℕ) (s : Seen) (old new : Tells) → LookOf h s old new → LookMade h old new s
+look_made h s old new look = record { heard = selecting look.heard; told = look.happened }
+
+below_goes : (next ready : Plan) (t : Table) {old mid : Tells} {n : ℕ} → SetBelow old n mid → (k : ℕ) → n + k ≡ 1024
+    → Goes (at_plan (preparing most_harts 0 next ready) t) old [] (at_plan (preparing k n next ready) t) mid
+below_goes next ready t SetBelow.none k is =
+    let all : 1024 ≡ k = omega (arith, is) in goes.step goes.start (Step.same (ap (λ x. lower (preparing x 0 next ready) t) all))
+below_goes next ready t (SetBelow.one_more {h} {mid} {looked} {new} x below look set) k is =
+    let before : h + suc k ≡ 1024 = omega (arith, is) in
+    let more : h + 1 ≡ suc h = omega arith in
+    goes.step (goes.step (goes.step (goes.step (goes.step (below_goes next ready t below (suc k) before) (Step.same (preparing_suc k h next ready t)))
+    (Step.looks (lower ready t) (lower (say (Line.IsRunning h) next) t) (change (EbreakHalts h true) (lower (preparing k (h + 1) next ready) t))
+    (look_made h (seen.Halted x) mid looked look)))
+    (Step.sets_ebreakm (lower (preparing k (h + 1) next ready) t) (record { heard = set.read; told = set.read_at })
+    (record { heard = set.written; told = set.written_at })))
+    Step.rests) (Step.same (ap (λ n. lower (preparing k n next ready) t) more))
+
+one_look : (next ready : Plan) (t : Table) (h : ℕ) (s : Seen) (old mid new : Tells) → h < most_harts → SetBelow old h mid → LookOf h s mid new
+    → (k : ℕ) × Goes (at_plan (preparing most_harts 0 next ready) t) old [] (behind_look s h (lower ready t) (lower (say (Line.IsRunning h) next) t)
+    (change (EbreakHalts h true) (lower (preparing k (h + 1) next ready) t))) new
+one_look next ready t h s old mid new few below look =
+    let less : h < 1024 = few in
+    let k : ℕ = 1023 - h in
+    let all : h + suc k ≡ 1024 = omega (arith, less) in
+    (k, goes.step (goes.step (below_goes next ready t below (suc k) all) (Step.same (preparing_suc k h next ready t)))
+    (Step.looks (lower ready t) (lower (say (Line.IsRunning h) next) t) (change (EbreakHalts h true) (lower (preparing k (h + 1) next ready) t))
+    (look_made h s mid new look)))
+
+all_set : (next ready : Plan) (t : Table) (old new : Tells) → AllSet old new → Leads (at_plan (preparing most_harts 0 next ready) t) old [] (at_plan ready t) new
+all_set next ready t old new (AllSet.up_to {h} {mid} few below look) =
+    goes_lead (at_plan (preparing most_harts 0 next ready) t) (at_plan ready t) old new []
+    (one_look next ready t h seen.Absent old mid new few below look).1
+all_set next ready t old new (AllSet.as_many below) =
+    goes_lead (at_plan (preparing most_harts 0 next ready) t) (at_plan ready t) old new []
+    (goes.step (below_goes next ready t below 0 (omega arith)) (Step.same (preparing_zero most_harts next ready t)))
+
+pub looks_led : (r : Prepared) (next ready : Plan) (t : Table) (old new : Tells) → PreparedAs old new r
+    → Leads (at_plan (preparing most_harts 0 next ready) t) old [] (at_plan (behind_looks r next ready) t) new
+looks_led prepared_as.Ready next ready t old new p = all_set next ready t old new p
+looks_led (prepared_as.Running h) next ready t old new p =
+    goes_lead (at_plan (preparing most_harts 0 next ready) t) (at_plan (say (Line.IsRunning h) next) t) old new []
+    (one_look next ready t h (seen.Running p.running) old p.mid new p.below p.set p.look).1
