@@ -59,19 +59,31 @@ value_read : (o : Option ℕ) (v : ℕ) → or_outside o ≡ Ok v → is_some o 
 value_read (Some w) v is = refl
 value_read None v is = cc
 
+abbrev answer_by : Bool → Bool → Result ⊤ MemFault
+answer_by a i = if a then (if i then Ok tt else Err Outside) else Err Misaligned
+
+taken_by : (a i : Bool) → a ≡ true → i ≡ true → answer_by a i ≡ Ok tt
+taken_by true true e f = refl
+taken_by true false e f = absurd (false≢true f)
+taken_by false i e f = absurd (false≢true e)
+
+abbrev read_by : Bool → Option ℕ → Result ℕ MemFault
+read_by a o = if a then or_outside o else Err Misaligned
+
+read_aligned : (a : Bool) (o : Option ℕ) (v : ℕ) → read_by a o ≡ Ok v → a ≡ true
+read_aligned true o v is = refl
+read_aligned false o v is = cc
+
+read_some : (a : Bool) (o : Option ℕ) (v : ℕ) → read_by a o ≡ Ok v → is_some o ≡ true
+read_some true o v is = value_read o v is
+read_some false o v is = cc
+
 stored : (m n : Memory) (a v : ℕ) → ((q : ℕ) → is_some (get m.bytes q) ≡ true → is_some (get n.bytes q) ≡ true) → loaded m a B4 ≡ Ok v
     → store_answer n a B4 ≡ Ok tt
 unfolding loaded store_answer
-stored m n a v there is = by (is_aligned a B4) is
-  where
-    inside : (b : Bool) → b ≡ true → (if b then Ok tt else Err Outside) ≡ Ok tt
-    inside true e = refl
-    inside false e = absurd (false≢true e)
-
-    by : (b : Bool) → (if b then or_outside (value_at m.bytes a 4) else Err Misaligned) ≡ Ok v
-        → (if b then (if is_some (value_at n.bytes a 4) then Ok tt else Err Outside) else Err Misaligned) ≡ Ok tt
-    by true e = inside (is_some (value_at n.bytes a 4)) (value_stays m.bytes n.bytes a 4 there (value_read (value_at m.bytes a 4) v e))
-    by false e = cc
+stored m n a v there is =
+    taken_by (is_aligned a B4) (is_some (value_at n.bytes a 4)) (read_aligned (is_aligned a B4) (value_at m.bytes a 4) v is)
+    (value_stays m.bytes n.bytes a 4 there (read_some (is_aligned a B4) (value_at m.bytes a 4) v is))
 
 turns_stay : (harts : List ℕ) (b : Board) → Stays b.memory.bytes (after_turns harts b).memory.bytes
 turns_stay harts b =

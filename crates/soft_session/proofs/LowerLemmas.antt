@@ -38,7 +38,7 @@ lower_say : (line : Line) (next : Plan) (t : Table) → lower (say line next) t 
 unfolding lower
 lower_say line next t = refl
 
-lower_if : (b : Bool) (p q : Plan) (t : Table) → lower (if b then p else q) t ≡ (if b then lower p t else lower q t)
+pub lower_if : (b : Bool) (p q : Plan) (t : Table) → lower (if b then p else q) t ≡ (if b then lower p t else lower q t)
 lower_if true p q t = refl
 lower_if false p q t = refl
 
@@ -52,7 +52,7 @@ lower_halted h next body t =
 halted_as : (h : ℕ) (next body is : Plan) (t : Table) → lower body t ≡ is → lower (at_halted h next body) t ≡ at_halted h (lower next t) is
 halted_as h next body is t e = lower_halted h next body t ∙ ap (at_halted h (lower next t)) e
 
-lower_until : (n h : ℕ) (test : Seen → Bool) (failed : Seen → Plan) (found : Plan) (last : Seen) (t : Table)
+pub lower_until : (n h : ℕ) (test : Seen → Bool) (failed : Seen → Plan) (found : Plan) (last : Seen) (t : Table)
     → lower (until n h test failed found last) t ≡ until n h test (λ s. lower (failed s) t) (lower found t) last
 unfolding until
 lower_until zero h test failed found last t = refl
