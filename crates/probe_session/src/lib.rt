@@ -50,4 +50,3 @@ pub use reading::put_values;
 pub use registers::reg;
 pub use script::{finished, run_script, unopened};
 pub use session::Session;
-pub use slots::slots;

@@ -13,7 +13,7 @@ use probe_run::Halted;
 use probe_trig::{SlotView, TrigFault};
 
 /// The slots of the halted hart.
-pub fn slots<D: Dmi>(link: &mut D, halted: &Halted) -> Result<SlotView, Failure>
+pub(crate) fn slots<D: Dmi>(link: &mut D, halted: &Halted) -> Result<SlotView, Failure>
     requires serving { AttachedHalted halted.now.number (D.seen link.old) }
     ensures viewed { IfOk result
         (λ view. Viewed halted.now.number view (told (D.seen link.old)) (told (D.seen link.new))) }

@@ -8,7 +8,6 @@ use Rattle.abstract_debugger.specs.Ways.{Way}
 use Rattle.abstract_debugger.specs.Ways.Way.{Idle}
 use Rattle.probe_run.specs.Acts.{Tells}
 use Rattle.probe_session.specs.Goes.{Goes}
-use Rattle.probe_session.specs.Goes.Goes as goes
 use Rattle.probe_session.specs.Led.{DealsAt, Leads}
 use Rattle.probe_session.specs.Places.{Place, idle, place}
 use Rattle.probe_session.specs.Steps.{Step}
@@ -25,7 +24,7 @@ led_then a b c t u v xs ys first second m o lines d =
 
 -- one step of those that a session without breakpoints makes
 pub led_step : (a b : Place) (t u : Tells) (xs : List Line) → Step a t xs b u → Leads a t xs b u
-led_step a b t u xs s = goes_lead a b t u xs (goes.step goes.start s)
+led_step a b t u xs s = goes_lead a b t u xs (Goes.step Goes.start s)
 
 pub led_same : (way : Way) (h : ℕ) (p q : Plan) (t : Tells) → p ≡ q → Leads (place way h p) t [] (place way h q) t
 led_same way h p q t is = led_step (place way h p) (place way h q) t t [] (Step.same is)

@@ -1,5 +1,5 @@
 -- Software breakpoints set and taken out, as steps of a session's lowered plan.
-use Rattle.std.proofs.Common.{◌≡◌, ◌∙◌, ◌+◌, ◌<◌, ◌-◌, ℕ, zero, suc, Bool, true, false, List, [], ◌∷◌, Option, refl, sym, ap, subst, arith}
+use Rattle.std.proofs.Common.{◌≡◌, ◌∙◌, ◌+◌, ◌<◌, ◌-◌, ◌^◌, ℕ, zero, suc, Bool, true, false, List, [], ◌∷◌, Err, refl, sym, ap, subst, arith}
 use Rattle.abstract_debugger.specs.Debugger.{by_state, look}
 use Rattle.abstract_debugger.specs.Lines.{Line}
 use Rattle.abstract_debugger.specs.Plan.{Plan}
@@ -12,18 +12,35 @@ use Rattle.probe_run.specs.Acts.{Tells}
 use Rattle.probe_session.specs.Calls.{LookMade}
 use Rattle.probe_session.specs.Calls.LookHeard.{selecting}
 use Rattle.probe_session.specs.Goes.{Goes}
-use Rattle.probe_session.specs.Goes.Goes as goes
 use Rattle.probe_session.specs.Led.{Leads}
 use Rattle.probe_session.specs.Places.{idle}
 use Rattle.probe_session.specs.Steps.{Step, behind_look}
 use Rattle.probe_session.proofs.LedSteps.{goes_lead}
-use Rattle.soft_laws.specs.Lowered.{Table, lower}
-use Rattle.soft_laws.specs.SoftDebugger.{most_harts, preparing}
+use Rattle.soft_laws.specs.Lowered.{Table, lower, patched_table}
+use Rattle.soft_laws.specs.SoftDebugger.{most_harts, planting, prepared, preparing}
 use Rattle.soft_break.specs.declared.preparing.Prepared.{Prepared}
 use Rattle.soft_break.specs.declared.preparing.Prepared.TheVariants as prepared_as
-use Rattle.soft_break.specs.Preparing.{AllSet, LookOf, PreparedAs, RunsAt, SetBelow}
+use Rattle.soft_break.specs.Preparing.{AllSet, LookOf, PreparedAs, SetBelow}
+use Rattle.debug_model.specs.Kept.{DmiSeen, Stands}
+use Rattle.debug_model.specs.SoftCommand.{IsSoftAddress}
+use Rattle.abstract_debugger.specs.Ways.Way.{Idle}
+use Rattle.probe_session.specs.declared.fault.Failure.{Failure}
+use Rattle.probe_session.specs.declared.fault.Failure.TheVariants as failure
+use Rattle.probe_session.specs.declared.fault.LostCause.TheVariants as lost
+use Rattle.probe_session.specs.declared.odd.Odd.TheVariants as odd
+use Rattle.probe_session.specs.Links.{LeftBy}
+use Rattle.probe_session.proofs.LinkLemmas.{access_left, can_quit}
+use Rattle.soft_break.specs.declared.fault.SoftFault.{SoftFault}
+use Rattle.soft_break.specs.declared.fault.SoftFault.TheVariants as soft_fault
+use Rattle.soft_break.specs.Calls.{SoftBehind}
+use Rattle.soft_break.specs.Leading.{PlantLeads, RefusalLeads}
+use Rattle.soft_break.specs.Patches.{Patches, original_of, with_patch}
+use Rattle.soft_laws.specs.SoftBreaks.{has_some, is_listed}
+use Rattle.soft_session.specs.Tables.{Holds}
+use Rattle.soft_session.proofs.LedLemmas.{led_at, led_same}
+use Rattle.soft_session.proofs.TableLemmas.{holds_planted}
 use Rattle.soft_session.specs.Led.{at_plan}
-use Rattle.soft_session.specs.Setting.{PreparedLed, behind_looks}
+use Rattle.soft_session.specs.Setting.{PlantedLed, behind_looks, failure_of_soft}
 use Rattle.soft_session.proofs.LowerLemmas.{lower_look_by}
 
 -- ---- the Looks in front of the first one
@@ -44,11 +61,11 @@ look_made h s old new look = record { heard = selecting look.heard; told = look.
 below_goes : (next ready : Plan) (t : Table) {old mid : Tells} {n : ℕ} → SetBelow old n mid → (k : ℕ) → n + k ≡ 1024
     → Goes (at_plan (preparing most_harts 0 next ready) t) old [] (at_plan (preparing k n next ready) t) mid
 below_goes next ready t SetBelow.none k is =
-    let all : 1024 ≡ k = omega (arith, is) in goes.step goes.start (Step.same (ap (λ x. lower (preparing x 0 next ready) t) all))
+    let all : 1024 ≡ k = omega (arith, is) in Goes.step Goes.start (Step.same (ap (λ x. lower (preparing x 0 next ready) t) all))
 below_goes next ready t (SetBelow.one_more {h} {mid} {looked} {new} x below look set) k is =
     let before : h + suc k ≡ 1024 = omega (arith, is) in
     let more : h + 1 ≡ suc h = omega arith in
-    goes.step (goes.step (goes.step (goes.step (goes.step (below_goes next ready t below (suc k) before) (Step.same (preparing_suc k h next ready t)))
+    Goes.step (Goes.step (Goes.step (Goes.step (Goes.step (below_goes next ready t below (suc k) before) (Step.same (preparing_suc k h next ready t)))
     (Step.looks (lower ready t) (lower (say (Line.IsRunning h) next) t) (change (EbreakHalts h true) (lower (preparing k (h + 1) next ready) t))
     (look_made h (seen.Halted x) mid looked look)))
     (Step.sets_ebreakm (lower (preparing k (h + 1) next ready) t) (record { heard = set.read; told = set.read_at })
@@ -62,7 +79,7 @@ one_look next ready t h s old mid new few below look =
     let less : h < 1024 = few in
     let k : ℕ = 1023 - h in
     let all : h + suc k ≡ 1024 = omega (arith, less) in
-    (k, goes.step (goes.step (below_goes next ready t below (suc k) all) (Step.same (preparing_suc k h next ready t)))
+    (k, Goes.step (Goes.step (below_goes next ready t below (suc k) all) (Step.same (preparing_suc k h next ready t)))
     (Step.looks (lower ready t) (lower (say (Line.IsRunning h) next) t) (change (EbreakHalts h true) (lower (preparing k (h + 1) next ready) t))
     (look_made h s mid new look)))
 
@@ -72,7 +89,7 @@ all_set next ready t old new (AllSet.up_to {h} {mid} few below look) =
     (one_look next ready t h seen.Absent old mid new few below look).1
 all_set next ready t old new (AllSet.as_many below) =
     goes_lead (at_plan (preparing most_harts 0 next ready) t) (at_plan ready t) old new []
-    (goes.step (below_goes next ready t below 0 (omega arith)) (Step.same (preparing_zero most_harts next ready t)))
+    (Goes.step (below_goes next ready t below 0 (omega arith)) (Step.same (preparing_zero most_harts next ready t)))
 
 pub looks_led : (r : Prepared) (next ready : Plan) (t : Table) (old new : Tells) → PreparedAs old new r
     → Leads (at_plan (preparing most_harts 0 next ready) t) old [] (at_plan (behind_looks r next ready) t) new
@@ -80,3 +97,45 @@ looks_led prepared_as.Ready next ready t old new p = all_set next ready t old ne
 looks_led (prepared_as.Running h) next ready t old new p =
     goes_lead (at_plan (preparing most_harts 0 next ready) t) (at_plan (say (Line.IsRunning h) next) t) old new []
     (one_look next ready t h (seen.Running p.running) old p.mid new p.below p.set p.look).1
+
+pub none_looked : (ps : List ℕ) (next ready : Plan) (t : Table) (u : Tells) → has_some ps ≡ true
+    → Leads (at_plan (prepared ps next ready) t) u [] (at_plan ready t) u
+none_looked [] next ready t u some = absurd (cc)
+none_looked (a ∷ ps) next ready t u some = led_same Idle 0 (lower ready t) (lower ready t) u refl
+
+pub first_looked : (ps : List ℕ) (r : Prepared) (next ready : Plan) (t : Table) (old new : Tells) → ps ≡ [] → PreparedAs old new r
+    → Leads (at_plan (prepared ps next ready) t) old [] (at_plan (behind_looks r next ready) t) new
+first_looked ps r next ready t old new none p =
+    subst (λ qs. Leads (at_plan (prepared qs next ready) t) old [] (at_plan (behind_looks r next ready) t) new) (sym none)
+    (looks_led r next ready t old new p)
+
+-- ---- one breakpoint more, or none
+
+pub plant_held : (a : ℕ) (p q : Patches) (old new : Tells) → IsSoftAddress a → is_listed p.addresses a ≡ false → q ≡ with_patch a (original_of a q) p
+    → original_of a q < 2 ^ 32 → PlantLeads a (original_of a q) old.far new.far → PlantedLed a p q old new true
+plant_held a p q old new word free is fits leads next set t holds = record {
+  table = patched_table true a (original_of a q) t;
+  holds = subst (λ x. Holds x (patched_table true a (original_of a q) t)) (sym is) (holds_planted a (original_of a q) p t word free fits holds);
+  leads = led_at Idle 0 (lower (planting a next set) t) (lower (say (Line.SoftSet a) set) (patched_table true a (original_of a q) t)) old new
+      (leads next set t holds.words (holds.listed a ∙ free));
+}
+
+pub plant_refused : (a : ℕ) (p q : Patches) (old new : Tells) → is_listed p.addresses a ≡ false → q ≡ p → RefusalLeads a old.far new.far
+    → PlantedLed a p q old new false
+plant_refused a p q old new free is leads next set t holds = record {
+  table = t;
+  holds = subst (λ x. Holds x t) (sym is) holds;
+  leads = led_at Idle 0 (lower (planting a next set) t) (lower (say (Line.MemoryFault a) next) t) old new (leads next set t holds.words (holds.listed a ∙ free));
+}
+
+-- ---- what a fault leaves of the link
+
+refused : (old new : DmiSeen) (f : Failure) → new ≡ old → Stands old → f ≡ failure.Lost (lost.Odd odd.Refusal) → LeftBy new f
+refused old new f same stands is = subst (LeftBy new) (sym is) (can_quit new (subst Stands (sym same) stands))
+
+pub soft_left : {A : Type 0} (old new : DmiSeen) (why : SoftFault) (f : Failure) → SoftBehind {A} old new (Err why) → Stands old → f ≡ failure_of_soft why
+    → LeftBy new f
+soft_left old new (soft_fault.Access why) f behind stands is = access_left new why f behind is
+soft_left old new soft_fault.Full f behind stands is = refused old new f behind stands is
+soft_left old new soft_fault.Set f behind stands is = refused old new f behind stands is
+soft_left old new soft_fault.NotSet f behind stands is = refused old new f behind stands is

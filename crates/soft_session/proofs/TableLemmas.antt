@@ -20,70 +20,73 @@ use Rattle.soft_session.specs.Tables.{Holds}
 -- ---- which words are listed
 
 other : (a b : ℕ) → (b == a) ≡ false → b ≡ a → ⊥
-other a b no e = false≢true (sym no ∙ eq-eqb b a e)
+other a b differs e = false≢true (sym differs ∙ eq-eqb b a e)
 
 without_other : (a b : ℕ) (cs : List ℕ) → (b == a) ≡ false → is_listed (without a cs) b ≡ is_listed cs b
-without_other a b [] no = refl
-without_other a b (c ∷ cs) no = by (a == c) refl
+without_other a b [] differs = refl
+without_other a b (c ∷ cs) differs = by (a == c) refl (without_other a b cs differs)
   where
     gone : (x : Bool) → (b == c) ≡ x → x ≡ false → is_listed cs b ≡ (x || is_listed cs b)
     gone false e none = refl
     gone true e none = absurd (false≢true (sym none))
 
-    by : (x : Bool) → (a == c) ≡ x → is_listed (if x then without a cs else c ∷ without a cs) b ≡ ((b == c) || is_listed cs b)
-    by true e = without_other a b cs no ∙ gone (b == c) refl (ap (λ n. b == n) (sym (eqb-true a c e)) ∙ no)
-    by false e = ap (λ x. (b == c) || x) (without_other a b cs no)
+    by : (x : Bool) → (a == c) ≡ x → is_listed (without a cs) b ≡ is_listed cs b
+        → is_listed (if x then without a cs else c ∷ without a cs) b ≡ ((b == c) || is_listed cs b)
+    by true e rest = rest ∙ gone (b == c) refl (ap (λ n. b == n) (sym (eqb-true a c e)) ∙ differs)
+    by false e rest = ap (λ x. (b == c) || x) rest
 
 without_self : (a : ℕ) (cs : List ℕ) → is_listed (without a cs) a ≡ false
 without_self a [] = refl
-without_self a (c ∷ cs) = by (a == c) refl
+without_self a (c ∷ cs) = by (a == c) refl (without_self a cs)
   where
-    by : (x : Bool) → (a == c) ≡ x → is_listed (if x then without a cs else c ∷ without a cs) a ≡ false
-    by true e = without_self a cs
-    by false e = ap (λ x. x || is_listed (without a cs) a) e ∙ without_self a cs
+    by : (x : Bool) → (a == c) ≡ x → is_listed (without a cs) a ≡ false → is_listed (if x then without a cs else c ∷ without a cs) a ≡ false
+    by true e rest = rest
+    by false e rest = ap (λ x. x || is_listed (without a cs) a) e ∙ rest
 
 put_other : (a b : ℕ) (cs : List ℕ) → (b == a) ≡ false → is_listed (put_in a cs) b ≡ is_listed cs b
-put_other a b [] no = ap (λ x. x || false) no
-put_other a b (c ∷ cs) no = by (nat_lt a c)
+put_other a b [] differs = ap (λ x. x || false) differs
+put_other a b (c ∷ cs) differs = by (nat_lt a c) (put_other a b cs differs)
   where
-    by : (x : Bool) → is_listed (if x then a ∷ c ∷ cs else c ∷ put_in a cs) b ≡ ((b == c) || is_listed cs b)
-    by true = ap (λ x. x || ((b == c) || is_listed cs b)) no
-    by false = ap (λ x. (b == c) || x) (put_other a b cs no)
+    by : (x : Bool) → is_listed (put_in a cs) b ≡ is_listed cs b
+        → is_listed (if x then a ∷ c ∷ cs else c ∷ put_in a cs) b ≡ ((b == c) || is_listed cs b)
+    by true rest = ap (λ x. x || ((b == c) || is_listed cs b)) differs
+    by false rest = ap (λ x. (b == c) || x) rest
 
 put_self : (a : ℕ) (cs : List ℕ) → is_listed (put_in a cs) a ≡ true
 put_self a [] = ap (λ x. x || false) (eq-eqb a a refl)
-put_self a (c ∷ cs) = by (nat_lt a c)
+put_self a (c ∷ cs) = by (nat_lt a c) (put_self a cs)
   where
     or_true : (x : Bool) → (x || true) ≡ true
     or_true true = refl
     or_true false = refl
 
-    by : (x : Bool) → is_listed (if x then a ∷ c ∷ cs else c ∷ put_in a cs) a ≡ true
-    by true = ap (λ x. x || is_listed (c ∷ cs) a) (eq-eqb a a refl)
-    by false = ap (λ x. (a == c) || x) (put_self a cs) ∙ or_true (a == c)
+    by : (x : Bool) → is_listed (put_in a cs) a ≡ true → is_listed (if x then a ∷ c ∷ cs else c ∷ put_in a cs) a ≡ true
+    by true rest = ap (λ x. x || is_listed (c ∷ cs) a) (eq-eqb a a refl)
+    by false rest = ap (λ x. (a == c) || x) rest ∙ or_true (a == c)
 
 -- ---- the words
 
 word_in_put : (a b w : ℕ) (cs ws : List ℕ) → (b == a) ≡ false → length ws ≡ length cs → word_in b (put_in a cs) (put_word a w cs ws) ≡ word_in b cs ws
-word_in_put a b w [] ws no alike = ap (λ x. if x then w else word_in b [] ws) no
-word_in_put a b w (c ∷ cs) [] no alike = absurd (omega (arith, alike))
-word_in_put a b w (c ∷ cs) (v ∷ ws) no alike = by (nat_lt a c)
+word_in_put a b w [] ws differs alike = ap (λ x. if x then w else word_in b [] ws) differs
+word_in_put a b w (c ∷ cs) [] differs alike = absurd (omega (arith, alike))
+word_in_put a b w (c ∷ cs) (v ∷ ws) differs alike = by (nat_lt a c) (word_in_put a b w cs ws differs (omega (arith, alike)))
   where
-    by : (x : Bool) → word_in b (if x then a ∷ c ∷ cs else c ∷ put_in a cs) (if x then w ∷ v ∷ ws else v ∷ put_word a w cs ws) ≡ word_in b (c ∷ cs) (v ∷ ws)
-    by true = ap (λ x. if x then w else word_in b (c ∷ cs) (v ∷ ws)) no
-    by false = ap (λ n. if b == c then v else n) (word_in_put a b w cs ws no (omega (arith, alike)))
+    by : (x : Bool) → word_in b (put_in a cs) (put_word a w cs ws) ≡ word_in b cs ws
+        → word_in b (if x then a ∷ c ∷ cs else c ∷ put_in a cs) (if x then w ∷ v ∷ ws else v ∷ put_word a w cs ws) ≡ word_in b (c ∷ cs) (v ∷ ws)
+    by true rest = ap (λ x. if x then w else word_in b (c ∷ cs) (v ∷ ws)) differs
+    by false rest = ap (λ n. if b == c then v else n) rest
 
 word_in_without : (a b : ℕ) (cs ws : List ℕ) → (b == a) ≡ false → length ws ≡ length cs → word_in b (without a cs) (without_word a cs ws) ≡ word_in b cs ws
-word_in_without a b [] ws no alike = refl
-word_in_without a b (c ∷ cs) [] no alike = absurd (omega (arith, alike))
-word_in_without a b (c ∷ cs) (v ∷ ws) no alike = by (a == c) refl
+word_in_without a b [] ws differs alike = refl
+word_in_without a b (c ∷ cs) [] differs alike = absurd (omega (arith, alike))
+word_in_without a b (c ∷ cs) (v ∷ ws) differs alike = by (a == c) refl (word_in_without a b cs ws differs (omega (arith, alike)))
   where
-    by : (x : Bool) → (a == c) ≡ x
+    by : (x : Bool) → (a == c) ≡ x → word_in b (without a cs) (without_word a cs ws) ≡ word_in b cs ws
         → word_in b (if x then without a cs else c ∷ without a cs) (if x then without_word a cs ws else v ∷ without_word a cs ws)
         ≡ (if b == c then v else word_in b cs ws)
-    by true e = word_in_without a b cs ws no (omega (arith, alike))
-        ∙ ap (λ x. if x then v else word_in b cs ws) (sym (ap (λ n. b == n) (sym (eqb-true a c e)) ∙ no))
-    by false e = ap (λ n. if b == c then v else n) (word_in_without a b cs ws no (omega (arith, alike)))
+    by true e rest = rest
+        ∙ ap (λ x. if x then v else word_in b cs ws) (sym (ap (λ n. b == n) (sym (eqb-true a c e)) ∙ differs))
+    by false e rest = ap (λ n. if b == c then v else n) rest
 
 -- ---- a word that was written, and one beside it
 
@@ -96,8 +99,8 @@ written_word a w t covers word fits =
 
 beside_word : (a b w : ℕ) (t : Table) (covers : Bool) → IsSoftAddress a → IsSoftAddress b → (b == a) ≡ false
     → original_at (patched_table covers a w t) b ≡ original_at t b
-beside_word a b w t covers word word' no =
-    ap (λ o. unwrap_or o 0) (value_apart t.originals a 4 w b 4 (words_apart a b word.0 word'.0 (other a b no)))
+beside_word a b w t covers word word' differs =
+    ap (λ o. unwrap_or o 0) (value_apart t.originals a 4 w b 4 (words_apart a b word.0 word'.0 (other a b differs)))
 
 word_of : (p : Patches) (t : Table) (b : ℕ) → Holds p t → is_listed p.addresses b ≡ true → IsSoftAddress b
 word_of p t b h is = listed-soft t.covered h.words b (h.listed b ∙ is)

@@ -5,14 +5,28 @@ use Rattle.abstract_debugger.specs.Lines.{Line}
 use Rattle.abstract_debugger.specs.Plan.{Plan}
 use Rattle.abstract_debugger.specs.Plan.Plan.{say}
 use Rattle.probe_run.specs.Acts.{Tells}
+use Rattle.probe_session.specs.declared.fault.Failure.{Failure}
+use Rattle.probe_session.specs.declared.fault.Failure.TheVariants as failure
+use Rattle.probe_session.specs.declared.fault.LostCause.TheVariants as lost
+use Rattle.probe_session.specs.declared.odd.Odd.TheVariants as odd
+use Rattle.probe_session.specs.Failures.{failure_of_access}
 use Rattle.probe_session.specs.Led.{Leads}
 use Rattle.soft_laws.specs.Lowered.{Table}
 use Rattle.soft_laws.specs.SoftDebugger.{closing, planting, prepared, put_in}
+use Rattle.soft_break.specs.declared.fault.SoftFault.{SoftFault}
+use Rattle.soft_break.specs.declared.fault.SoftFault.TheVariants as soft_fault
 use Rattle.soft_break.specs.declared.preparing.Prepared.{Prepared}
 use Rattle.soft_break.specs.declared.preparing.Prepared.TheVariants as prepared_as
 use Rattle.soft_break.specs.Patches.{Patches}
 use Rattle.soft_session.specs.Led.{Onto, at_plan}
 use Rattle.soft_session.specs.Tables.{Holds}
+
+-- what a fault of a call on the table makes of a session where none of memory is its answer
+abbrev pub failure_of_soft : SoftFault → Failure
+failure_of_soft (soft_fault.Access why) = failure_of_access why
+failure_of_soft soft_fault.Full = failure.Lost (lost.Odd odd.Refusal)
+failure_of_soft soft_fault.Set = failure.Lost (lost.Odd odd.Refusal)
+failure_of_soft soft_fault.NotSet = failure.Lost (lost.Odd odd.Refusal)
 
 -- what follows the Looks of every hart
 abbrev pub behind_looks : Prepared → (next ready : Plan) → Plan

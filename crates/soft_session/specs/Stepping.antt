@@ -8,11 +8,13 @@ use Rattle.abstract_debugger.specs.Plan.{Plan}
 use Rattle.abstract_debugger.specs.Plan.Plan.{say, see}
 use Rattle.printed_lines.specs.declared.line.Line.{Line as PrintedLine}
 use Rattle.probe_run.specs.Acts.{Tells}
-use Rattle.probe_session.specs.Calls.{Got}
+use Rattle.probe_session.specs.Calls.{Got, Viewed}
 use Rattle.probe_session.specs.Going.{Branches, at_one}
 use Rattle.probe_session.specs.Led.{Leads}
 use Rattle.probe_session.specs.Places.{Place, idle, ready, still}
 use Rattle.probe_session.specs.Said.{said_by}
+use Rattle.probe_session.specs.Steps.{any_in}
+use Rattle.probe_trig.specs.declared.slot_view.SlotView.{SlotView}
 use Rattle.soft_laws.specs.Lowered.{Table, lower}
 use Rattle.soft_laws.specs.SoftBreaks.{is_listed}
 use Rattle.soft_laws.specs.SoftDebugger.{one_by, soft_one, soft_resuming, soft_stepping}
@@ -61,3 +63,9 @@ GoingLed h p old new line =
 abbrev pub GoneLed : ℕ → Bool → (old new : Tells) → PrintedLine → Type 0
 GoneLed h is_whole old new line =
     (next : Plan) → Leads (behind_whole is_whole h (going h (say Line.Resumed next)) (stop_line h next)) old [] (idle (say (said_by line) next)) new
+
+-- the slots were seen, and some have a hit, or none
+pub record HitSeen (h : ℕ) (old new : Tells) (some : Bool) : Type 0 where
+  pub view : SlotView
+  pub viewed : Viewed h view old new
+  pub is : any_in view ≡ some

@@ -9,14 +9,15 @@ ghost use Rattle.probe_session.specs.Known.{Knows};
 ghost use Rattle.probe_session.specs.Links.{Attached, AttachedAt, AttachedHalted, Goes};
 ghost use Rattle.probe_session.specs.Met.{AttachedMet, MetAs};
 ghost use Rattle.soft_session.specs.Led.{LineLed, soft_state};
-ghost use Rattle.soft_session.specs.Stepping.{GoingLed, GoneLed, StepsLed};
+ghost use Rattle.soft_session.specs.Stepping.{GoingLed, GoneLed, HitSeen, StepsLed};
 
 use crate::over::{Stepped, breakpoint_at, one_step, step_over_breakpoint};
 use crate::session::SoftSession;
 use debug_model::Dmi;
 use printed_lines::Line;
 use probe_run::Halted;
-use probe_session::{Failure, Known, Met, free_line, has_any, meet, slots, stop_line};
+use probe_session::{Failure, Known, Met, free_line, has_any, meet, stop_line};
+use probe_trig::slots;
 use soft_break::SoftTable;
 
 /// Makes up to so many single steps of a halted hart, until one stops for another cause, and says where it stands then.
@@ -39,6 +40,16 @@ fn steps_line<D: Dmi>(
         }
     }
     stop_line(link, &now)
+}
+
+/// Whether any slot of the halted hart has a hit.
+fn has_hit<D: Dmi>(link: &mut D, halted: &Halted) -> Result<bool, Failure>
+    requires serving { AttachedHalted halted.now.number (D.seen link.old) }
+    ensures seen { IfOk result (HitSeen halted.now.number (told (D.seen link.old)) (told (D.seen link.new))) }
+    ensures keeps { Goes (λ _. AttachedHalted halted.now.number) (D.seen link.old) (D.seen link.new) result }
+{
+    let view = slots(link, halted)?;
+    Ok(has_any(&view))
 }
 
 /// Lets a halted hart go that stands behind a single step, or says where it stands where that was no whole one.
@@ -66,8 +77,7 @@ fn going_line<D: Dmi>(link: &mut D, halted: Halted, table: &SoftTable) -> Result
             gone_line(link, stepped)
         }
         None => {
-            let seen = slots(link, &halted)?;
-            if !has_any(&seen) {
+            if !has_hit(link, &halted)? {
                 return free_line(link, halted);
             }
             let stepped = one_step(link, halted, table)?;

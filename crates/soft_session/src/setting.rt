@@ -8,18 +8,19 @@ ghost use Rattle.probe_session.specs.declared.known.Known.TheVariants.{Nothing};
 ghost use Rattle.probe_session.specs.Links.{Attached, Goes};
 ghost use Rattle.soft_laws.specs.SoftBreaks.{is_listed};
 ghost use Rattle.soft_session.specs.Led.{LineLed};
-ghost use Rattle.soft_session.specs.Setting.{ClosedLed, PlantedLed, PreparedLed, planted_list};
+ghost use Rattle.soft_session.specs.Setting.{ClosedLed, PlantedLed, PreparedLed, failure_of_soft, planted_list};
 
 use crate::session::SoftSession;
 use debug_model::Dmi;
 use printed_lines::Line;
 use probe_access::AccessFault;
-use probe_run::Target;
-use probe_session::{Failure, Known, LostCause, Odd};
+use probe_session::{Failure, Known, LostCause, Odd, Session};
 use soft_break::{PATCHES_MOST, Prepared, SoftFault, SoftTable, prepare};
 
 /// What a fault of a table's call makes of a session where none of memory is its answer.
-fn failure_of(fault: SoftFault) -> Failure {
+fn failure_of(fault: SoftFault) -> Failure
+    ensures { result ≡ failure_of_soft fault }
+{
     match fault {
         SoftFault::Access(why) => Failure::from(why),
         SoftFault::Full | SoftFault::Set | SoftFault::NotSet => {
@@ -31,7 +32,7 @@ fn failure_of(fault: SoftFault) -> Failure {
 /// In front of the first breakpoint each hart is made to halt at an ebreak.
 fn prepare_first<D: Dmi>(
     link: &mut D,
-    target: &Target,
+    session: &Session,
     table: &SoftTable,
 ) -> Result<Prepared, Failure>
     requires serving { Attached (D.seen link.old) }
@@ -41,7 +42,7 @@ fn prepare_first<D: Dmi>(
     if !table.patches().is_empty() {
         return Ok(Prepared::Ready);
     }
-    let prepared = prepare(link, target)?;
+    let prepared = prepare(link, &session.target)?;
     Ok(prepared)
 }
 
@@ -77,7 +78,7 @@ impl SoftSession {
         if self.table.patches().len() == PATCHES_MOST {
             return Ok(Line::NoFreeSoftBreak);
         }
-        match prepare_first(link, &self.session.target, &self.table)? {
+        match prepare_first(link, &self.session, &self.table)? {
             Prepared::Running(hart) => Ok(Line::IsRunning(hart)),
             Prepared::Ready => {
                 if plant_word(link, &mut self.table, at)? {
