@@ -108,6 +108,7 @@ impl SoftTable {
         ensures answers { UnplantAnswers at self.old result }
         ensures table { UnplantTable at self.old self.new result }
         ensures stored { OnOk result (OnChip (BusStoredAt B4 at (original_of at self.old)) (D.seen link.old) (D.seen link.new)) }
+        ensures leads { OnOk result (LiftLeads at (original_of at self.old) (D.seen link.old).far (D.seen link.new).far) }
         ensures ran { OnOk result (BusStored B4 at (original_of at self.old) (told (D.seen link.old)) (told (D.seen link.new))) }
         ensures left { IfErr result (IfAccess (AccessLeft (BusStoreRefused B4 at) at (D.seen link.old).far (D.seen link.new).far)) }
         ensures failed { IfErr result (IfAccess (Fails (BusStoreFailed B4 at (original_of at self.old)) (D.seen link.old) (D.seen link.new))) }

@@ -1,5 +1,7 @@
 -- Software breakpoints set and taken out, as steps of a session's lowered plan.
-use Rattle.std.proofs.Common.{◌≡◌, ◌∙◌, ◌+◌, ◌<◌, ◌-◌, ◌^◌, ℕ, zero, suc, Bool, true, false, List, [], ◌∷◌, Err, refl, sym, ap, subst, arith}
+use Rattle.std.proofs.Common.{◌≡◌, ◌∙◌, ◌+◌, ◌<◌, ◌-◌, ◌^◌, ℕ, zero, suc, Bool, true, false, List, [], ◌∷◌, length, Err, if◌then◌else◌, refl, sym, ap, subst, arith}
+use Rattle.std.specs.Prelude.{◌==◌}
+use Rattle.std.proofs.lemmas.Bool.{eqb-true, false≢true}
 use Rattle.abstract_debugger.specs.Debugger.{by_state, look}
 use Rattle.abstract_debugger.specs.Lines.{Line}
 use Rattle.abstract_debugger.specs.Plan.{Plan}
@@ -17,7 +19,7 @@ use Rattle.probe_session.specs.Places.{idle}
 use Rattle.probe_session.specs.Steps.{Step, behind_look}
 use Rattle.probe_session.proofs.LedSteps.{goes_lead}
 use Rattle.soft_laws.specs.Lowered.{Table, lower, patched_table}
-use Rattle.soft_laws.specs.SoftDebugger.{most_harts, planting, prepared, preparing}
+use Rattle.soft_laws.specs.SoftDebugger.{SoftState, clearing, lifting, most_harts, planting, prepared, preparing}
 use Rattle.soft_break.specs.declared.preparing.Prepared.{Prepared}
 use Rattle.soft_break.specs.declared.preparing.Prepared.TheVariants as prepared_as
 use Rattle.soft_break.specs.Preparing.{AllSet, LookOf, PreparedAs, SetBelow}
@@ -30,17 +32,22 @@ use Rattle.probe_session.specs.declared.fault.LostCause.TheVariants as lost
 use Rattle.probe_session.specs.declared.odd.Odd.TheVariants as odd
 use Rattle.probe_session.specs.Links.{LeftBy}
 use Rattle.probe_session.proofs.LinkLemmas.{access_left, can_quit}
+use Rattle.probe_access.specs.declared.fault.AccessFault.{AccessFault}
+use Rattle.probe_access.specs.declared.fault.AccessFault.TheVariants as access_fault
+use Rattle.probe_access.specs.Accesses.{IfMemory}
 use Rattle.soft_break.specs.declared.fault.SoftFault.{SoftFault}
 use Rattle.soft_break.specs.declared.fault.SoftFault.TheVariants as soft_fault
-use Rattle.soft_break.specs.Calls.{SoftBehind}
-use Rattle.soft_break.specs.Leading.{PlantLeads, RefusalLeads}
-use Rattle.soft_break.specs.Patches.{Patches, original_of, with_patch}
-use Rattle.soft_laws.specs.SoftBreaks.{has_some, is_listed}
+use Rattle.soft_break.specs.Calls.{IfAccess, SoftBehind}
+use Rattle.soft_break.specs.Leading.{LiftLeads, PlantLeads, RefusalLeads}
+use Rattle.soft_break.specs.Patches.{Patches, original_of, with_patch, without_patch}
+use Rattle.soft_laws.specs.SoftBreaks.{has_some, is_listed, without}
 use Rattle.soft_session.specs.Tables.{Holds}
-use Rattle.soft_session.proofs.LedLemmas.{led_at, led_same}
-use Rattle.soft_session.proofs.TableLemmas.{holds_planted}
-use Rattle.soft_session.specs.Led.{at_plan}
-use Rattle.soft_session.specs.Setting.{PlantedLed, behind_looks, failure_of_soft}
+use Rattle.soft_session.proofs.LedLemmas.{led_at, led_same, led_then}
+use Rattle.soft_session.proofs.TableLemmas.{holds_lifted, holds_planted}
+use Rattle.probe_session.specs.Commands.{state_of}
+use Rattle.soft_session.specs.declared.session.SoftSession.{SoftSession}
+use Rattle.soft_session.specs.Led.{Onto, at_plan, soft_state}
+use Rattle.soft_session.specs.Setting.{PlantedLed, behind_looks, failure_of_soft, is_refusal, is_refused}
 use Rattle.soft_session.proofs.LowerLemmas.{lower_look_by}
 
 -- ---- the Looks in front of the first one
@@ -98,6 +105,20 @@ looks_led (prepared_as.Running h) next ready t old new p =
     goes_lead (at_plan (preparing most_harts 0 next ready) t) (at_plan (say (Line.IsRunning h) next) t) old new []
     (one_look next ready t h (seen.Running p.running) old p.mid new p.below p.set p.look).1
 
+pub some_set : (qs ps : List ℕ) → qs ≡ ps → (length qs == 0) ≡ false → has_some ps ≡ true
+some_set qs ps is some = by ps (ap (λ (l : List ℕ). length l == 0) (sym is) ∙ some)
+  where
+    by : (l : List ℕ) → (length l == 0) ≡ false → has_some l ≡ true
+    by [] e = absurd (false≢true (sym e))
+    by (a ∷ l) e = refl
+
+pub none_set_yet : (qs ps : List ℕ) → qs ≡ ps → (length qs == 0) ≡ true → ps ≡ []
+none_set_yet qs ps is none = by ps (ap (λ (l : List ℕ). length l == 0) (sym is) ∙ none)
+  where
+    by : (l : List ℕ) → (length l == 0) ≡ true → l ≡ []
+    by [] e = refl
+    by (a ∷ l) e = absurd (omega (arith, eqb-true (length (a ∷ l)) 0 e))
+
 pub none_looked : (ps : List ℕ) (next ready : Plan) (t : Table) (u : Tells) → has_some ps ≡ true
     → Leads (at_plan (prepared ps next ready) t) u [] (at_plan ready t) u
 none_looked [] next ready t u some = absurd (cc)
@@ -133,9 +154,75 @@ plant_refused a p q old new free is leads next set t holds = record {
 refused : (old new : DmiSeen) (f : Failure) → new ≡ old → Stands old → f ≡ failure.Lost (lost.Odd odd.Refusal) → LeftBy new f
 refused old new f same stands is = subst (LeftBy new) (sym is) (can_quit new (subst Stands (sym same) stands))
 
-pub soft_left : {A : Type 0} (old new : DmiSeen) (why : SoftFault) (f : Failure) → SoftBehind {A} old new (Err why) → Stands old → f ≡ failure_of_soft why
+pub soft_left : (A : Type 0) (old new : DmiSeen) (why : SoftFault) (f : Failure) → SoftBehind {A = A} old new (Err why) → Stands old → f ≡ failure_of_soft why
     → LeftBy new f
-soft_left old new (soft_fault.Access why) f behind stands is = access_left new why f behind is
-soft_left old new soft_fault.Full f behind stands is = refused old new f behind stands is
-soft_left old new soft_fault.Set f behind stands is = refused old new f behind stands is
-soft_left old new soft_fault.NotSet f behind stands is = refused old new f behind stands is
+soft_left A old new (soft_fault.Access why) f behind stands is = access_left new why f behind is
+soft_left A old new soft_fault.Full f behind stands is = refused old new f behind stands is
+soft_left A old new soft_fault.Set f behind stands is = refused old new f behind stands is
+soft_left A old new soft_fault.NotSet f behind stands is = refused old new f behind stands is
+
+-- ---- one less
+
+pub lift_set : (a : ℕ) (p q : Patches) (next : ℕ → Plan) (t : Table) (old new : Tells) → is_listed p.addresses a ≡ true → q ≡ without_patch a p
+    → LiftLeads a (original_of a p) old.far new.far → Holds p t
+    → Onto q (λ u. Leads (at_plan (lifting a next) t) old [] (at_plan (next (original_of a p)) u) new)
+lift_set a p q next t old new set is leads holds = record {
+  table = patched_table false a (original_of a p) t;
+  holds = subst (λ x. Holds x (patched_table false a (original_of a p) t)) (sym is) (holds_lifted a (original_of a p) p t set holds);
+  leads = led_at Idle 0 (lower (lifting a next) t) (lower (next (original_of a p)) (patched_table false a (original_of a p) t)) old new
+      (leads next t (holds.listed a ∙ set) (holds.exact a set));
+}
+
+-- ---- a refusal
+
+refused_by : (P : Type 0) (why : AccessFault) → is_refused why ≡ true → IfMemory P why → P
+refused_by P (access_fault.Dmi why) is p = absurd (false≢true is)
+refused_by P (access_fault.Memory at) is p = p
+refused_by P (access_fault.Register number) is p = absurd (false≢true is)
+refused_by P access_fault.StillBusy is p = absurd (false≢true is)
+refused_by P (access_fault.Run why) is p = absurd (false≢true is)
+refused_by P (access_fault.Odd shown) is p = absurd (false≢true is)
+
+pub by_refusal : (P : Type 0) (fault : SoftFault) → is_refusal fault ≡ true → IfAccess (IfMemory P) fault → P
+by_refusal P (soft_fault.Access why) is p = refused_by P why is p
+by_refusal P soft_fault.Full is p = absurd (false≢true is)
+by_refusal P soft_fault.Set is p = absurd (false≢true is)
+by_refusal P soft_fault.NotSet is p = absurd (false≢true is)
+
+-- ---- the commands
+
+pub cleared : (a : ℕ) (line : Line) (from to : SoftSession) (old new : Tells) → is_listed from.table.addresses a ≡ true
+    → to.table ≡ without_patch a from.table → state_of to.session ≡ state_of from.session → line ≡ Line.SoftClear a
+    → LiftLeads a (original_of a from.table) old.far new.far → (next : SoftState → Plan) (t : Table) → Holds from.table t
+    → Onto to.table (λ u. Leads (at_plan (clearing a (soft_state from) next) t) old [] (at_plan (say line (next (soft_state to))) u) new)
+cleared a line from to old new set is same said leads next t holds =
+    let rest : ℕ → Plan = λ original. say (Line.SoftClear a) (next (record { plain = state_of from.session; planted = without a from.table.addresses })) in
+    let o : Onto to.table (λ u. Leads (at_plan (lifting a rest) t) old [] (at_plan (rest (original_of a from.table)) u) new) =
+    lift_set a from.table to.table rest t old new set is leads holds in
+    let state : soft_state to ≡ record { plain = state_of from.session; planted = without a from.table.addresses } =
+    (λ i. record { plain = same i; planted = (ap (λ (p : Patches). p.addresses) is) i }) in
+    record {
+      table = o.table;
+      holds = o.holds;
+      leads = led_then (at_plan (clearing a (soft_state from) next) t) (at_plan (lifting a rest) t) (at_plan (say line (next (soft_state to))) o.table) old old
+          new [] [] (led_same Idle 0 _ (lower (lifting a rest) t) old
+          (ap (λ b. lower (if b then lifting a rest else say (Line.SoftNotSet a) (next (soft_state from))) t) set))
+          (led_then (at_plan (lifting a rest) t) (at_plan (rest (original_of a from.table)) o.table) (at_plan (say line (next (soft_state to))) o.table) old new
+          new [] [] o.leads (led_same Idle 0 (lower (rest (original_of a from.table)) o.table) _ new
+          (ap (λ l. lower (say l (next (record { plain = state_of from.session; planted = without a from.table.addresses }))) o.table) (sym said)
+          ∙ ap (λ s. lower (say line (next s)) o.table) (sym state))));
+    }
+
+pub not_set : (a : ℕ) (line : Line) (from to : SoftSession) (u : Tells) → is_listed from.table.addresses a ≡ false
+    → to.table ≡ from.table → state_of to.session ≡ state_of from.session → line ≡ Line.SoftNotSet a → (next : SoftState → Plan) (t : Table) → Holds from.table t
+    → Onto to.table (λ k. Leads (at_plan (clearing a (soft_state from) next) t) u [] (at_plan (say line (next (soft_state to))) k) u)
+not_set a line from to u none is same said next t holds =
+    let state : soft_state to ≡ soft_state from = (λ i. record { plain = same i; planted = (ap (λ (p : Patches). p.addresses) is) i }) in
+    record {
+      table = t;
+      holds = subst (λ p. Holds p t) (sym is) holds;
+      leads = led_same Idle 0 _ (lower (say line (next (soft_state to))) t) u
+          (ap (λ b. lower (if b then lifting a (λ original. say (Line.SoftClear a) (next (record (soft_state from) { planted = without a from.table.addresses })))
+          else say (Line.SoftNotSet a) (next (soft_state from))) t) none
+          ∙ ap (λ l. lower (say l (next (soft_state from))) t) (sym said) ∙ ap (λ s. lower (say line (next s)) t) (sym state));
+    }

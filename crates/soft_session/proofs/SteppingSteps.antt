@@ -35,13 +35,14 @@ use Rattle.soft_session.proofs.TableLemmas.{holds_again}
 
 -- ---- a single step
 
+lost_by : (b : Bool) (t : Table) → lower (if b then stop (NoHalt most_looks) else stop (NoAck most_looks)) t
+    ≡ (if b then stop (NoHalt most_looks) else stop (NoAck most_looks))
+unfolding lower
+lost_by true t = refl
+lost_by false t = refl
+
 lost : (t : Table) (s : Seen) → lower (lost_step s) t ≡ lost_step s
-lost t s = by (sees_ack s)
-  where
-    by : (b : Bool) → lower (if b then stop (NoHalt most_looks) else stop (NoAck most_looks)) t ≡ (if b then stop (NoHalt most_looks) else stop (NoAck most_looks))
-    unfolding lower
-    by true = refl
-    by false = refl
+lost t s = lost_by (sees_ack s) t
 
 done : (h : ℕ) (stepped other : Plan) (t : Table)
     → lower (change (StepDone h) (behind_step h stepped other)) t ≡ change (StepDone h) (behind_step h (lower stepped t) (lower other t))

@@ -4,6 +4,8 @@ use Rattle.std.specs.Prelude.{◌≡◌, ℕ, Bool, true, false, List, []}
 use Rattle.abstract_debugger.specs.Lines.{Line}
 use Rattle.abstract_debugger.specs.Plan.{Plan}
 use Rattle.abstract_debugger.specs.Plan.Plan.{say}
+use Rattle.probe_access.specs.declared.fault.AccessFault.{AccessFault}
+use Rattle.probe_access.specs.declared.fault.AccessFault.TheVariants as access_fault
 use Rattle.probe_run.specs.Acts.{Tells}
 use Rattle.probe_session.specs.declared.fault.Failure.{Failure}
 use Rattle.probe_session.specs.declared.fault.Failure.TheVariants as failure
@@ -27,6 +29,15 @@ failure_of_soft (soft_fault.Access why) = failure_of_access why
 failure_of_soft soft_fault.Full = failure.Lost (lost.Odd odd.Refusal)
 failure_of_soft soft_fault.Set = failure.Lost (lost.Odd odd.Refusal)
 failure_of_soft soft_fault.NotSet = failure.Lost (lost.Odd odd.Refusal)
+
+abbrev pub is_refused : AccessFault → Bool
+is_refused (access_fault.Memory at) = true
+is_refused _ = false
+
+-- memory has refused an access
+abbrev pub is_refusal : SoftFault → Bool
+is_refusal (soft_fault.Access why) = is_refused why
+is_refusal _ = false
 
 -- what follows the Looks of every hart
 abbrev pub behind_looks : Prepared → (next ready : Plan) → Plan

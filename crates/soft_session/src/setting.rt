@@ -8,7 +8,7 @@ ghost use Rattle.probe_session.specs.declared.known.Known.TheVariants.{Nothing};
 ghost use Rattle.probe_session.specs.Links.{Attached, Goes};
 ghost use Rattle.soft_laws.specs.SoftBreaks.{is_listed};
 ghost use Rattle.soft_session.specs.Led.{LineLed};
-ghost use Rattle.soft_session.specs.Setting.{ClosedLed, PlantedLed, PreparedLed, failure_of_soft, planted_list};
+ghost use Rattle.soft_session.specs.Setting.{ClosedLed, PlantedLed, PreparedLed, failure_of_soft, is_refusal, planted_list};
 
 use crate::session::SoftSession;
 use debug_model::Dmi;
@@ -26,6 +26,19 @@ fn failure_of(fault: SoftFault) -> Failure
         SoftFault::Full | SoftFault::Set | SoftFault::NotSet => {
             Failure::Lost(LostCause::Odd(Odd::Refusal))
         }
+    }
+}
+
+/// Whether memory has refused an access.
+fn is_refusal(fault: SoftFault) -> bool
+    ensures { result ≡ is_refusal fault }
+{
+    match fault {
+        SoftFault::Access(why) => match why {
+            AccessFault::Memory(_) => true,
+            _ => false,
+        },
+        SoftFault::Full | SoftFault::Set | SoftFault::NotSet => false,
     }
 }
 
@@ -57,8 +70,13 @@ fn plant_word<D: Dmi>(link: &mut D, table: &mut SoftTable, at: u64) -> Result<bo
 {
     match table.plant(link, at) {
         Ok(()) => Ok(true),
-        Err(SoftFault::Access(AccessFault::Memory(_))) => Ok(false),
-        Err(fault) => Err(failure_of(fault)),
+        Err(fault) => {
+            if is_refusal(fault) {
+                Ok(false)
+            } else {
+                Err(failure_of(fault))
+            }
+        }
     }
 }
 
