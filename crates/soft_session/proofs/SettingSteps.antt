@@ -19,7 +19,7 @@ use Rattle.probe_session.specs.Places.{idle}
 use Rattle.probe_session.specs.Steps.{Step, behind_look}
 use Rattle.probe_session.proofs.LedSteps.{goes_lead}
 use Rattle.soft_laws.specs.Lowered.{Table, lower, patched_table}
-use Rattle.soft_laws.specs.SoftDebugger.{SoftState, clearing, lifting, most_harts, planting, prepared, preparing}
+use Rattle.soft_laws.specs.SoftDebugger.{SoftState, clearing, lifting, most_harts, most_planted, planting, prepared, preparing, put_in, setting}
 use Rattle.soft_break.specs.declared.preparing.Prepared.{Prepared}
 use Rattle.soft_break.specs.declared.preparing.Prepared.TheVariants as prepared_as
 use Rattle.soft_break.specs.Preparing.{AllSet, LookOf, PreparedAs, SetBelow}
@@ -47,7 +47,7 @@ use Rattle.soft_session.proofs.TableLemmas.{holds_lifted, holds_planted}
 use Rattle.probe_session.specs.Commands.{state_of}
 use Rattle.soft_session.specs.declared.session.SoftSession.{SoftSession}
 use Rattle.soft_session.specs.Led.{Onto, at_plan, soft_state}
-use Rattle.soft_session.specs.Setting.{PlantedLed, behind_looks, failure_of_soft, is_refusal, is_refused}
+use Rattle.soft_session.specs.Setting.{PlantedLed, PreparedLed, behind_looks, behind_planting, failure_of_soft, is_refusal, is_refused, planted_list}
 use Rattle.soft_session.proofs.LowerLemmas.{lower_look_by}
 
 -- ---- the Looks in front of the first one
@@ -225,4 +225,107 @@ not_set a line from to u none is same said next t holds =
           (ap (λ b. lower (if b then lifting a (λ original. say (Line.SoftClear a) (next (record (soft_state from) { planted = without a from.table.addresses })))
           else say (Line.SoftNotSet a) (next (soft_state from))) t) none
           ∙ ap (λ l. lower (say l (next (soft_state from))) t) (sym said) ∙ ap (λ s. lower (say line (next s)) t) (sym state));
+    }
+
+-- what `setting` is behind its tests
+abbrev set_up : ℕ → SoftState → (SoftState → Plan) → Plan
+set_up a s next = prepared s.planted (next s) (planting a (next s) (next (record s { planted = put_in a s.planted })))
+
+abbrev full_or : ℕ → SoftState → (SoftState → Plan) → Plan
+full_or a s next = if length s.planted == most_planted then say Line.NoFreeSoftBreak (next s) else set_up a s next
+
+abbrev pub planted_line : ℕ → Bool → Line
+planted_line a true = Line.SoftSet a
+planted_line a false = Line.MemoryFault a
+
+planted_so : (a : ℕ) (held : Bool) (from : SoftSession) (next : SoftState → Plan)
+    → behind_planting a held (next (soft_state from)) (next (record (soft_state from) { planted = put_in a from.table.addresses }))
+    ≡ say (planted_line a held) (next (record { plain = state_of from.session; planted = planted_list a held from.table.addresses }))
+planted_so a true from next = refl
+planted_so a false from next = refl
+
+-- one is set there already
+pub set_already : (a : ℕ) (from to : SoftSession) (u : Tells) → is_listed from.table.addresses a ≡ true → to.table ≡ from.table
+    → state_of to.session ≡ state_of from.session → (next : SoftState → Plan) (t : Table) → Holds from.table t
+    → Onto to.table (λ k. Leads (at_plan (setting a (soft_state from) next) t) u [] (at_plan (say (Line.SoftIsSet a) (next (soft_state to))) k) u)
+set_already a from to u set is same next t holds =
+    let state : soft_state to ≡ soft_state from = (λ i. record { plain = same i; planted = (ap (λ (p : Patches). p.addresses) is) i }) in
+    record {
+      table = t;
+      holds = subst (λ p. Holds p t) (sym is) holds;
+      leads = led_same Idle 0 _ (lower (say (Line.SoftIsSet a) (next (soft_state to))) t) u
+          (ap (λ b. lower (if b then say (Line.SoftIsSet a) (next (soft_state from)) else full_or a (soft_state from) next) t) set
+          ∙ ap (λ s. lower (say (Line.SoftIsSet a) (next s)) t) (sym state));
+    }
+
+-- there is no room for one more
+pub no_room : (a : ℕ) (from to : SoftSession) (u : Tells) → is_listed from.table.addresses a ≡ false → (length from.table.addresses == most_planted) ≡ true
+    → to.table ≡ from.table → state_of to.session ≡ state_of from.session → (next : SoftState → Plan) (t : Table) → Holds from.table t
+    → Onto to.table (λ k. Leads (at_plan (setting a (soft_state from) next) t) u [] (at_plan (say Line.NoFreeSoftBreak (next (soft_state to))) k) u)
+no_room a from to u free full is same next t holds =
+    let state : soft_state to ≡ soft_state from = (λ i. record { plain = same i; planted = (ap (λ (p : Patches). p.addresses) is) i }) in
+    record {
+      table = t;
+      holds = subst (λ p. Holds p t) (sym is) holds;
+      leads = led_same Idle 0 _ (lower (say Line.NoFreeSoftBreak (next (soft_state to))) t) u
+          (ap (λ b. lower (if b then say (Line.SoftIsSet a) (next (soft_state from)) else full_or a (soft_state from) next) t) free
+          ∙ ap (λ b. lower (if b then say Line.NoFreeSoftBreak (next (soft_state from)) else set_up a (soft_state from) next) t) full
+          ∙ ap (λ s. lower (say Line.NoFreeSoftBreak (next s)) t) (sym state));
+    }
+
+-- up to the Looks, where there is room
+set_from : (a : ℕ) (from : SoftSession) (u : Tells) (next : SoftState → Plan) (t : Table) → is_listed from.table.addresses a ≡ false
+    → (length from.table.addresses == most_planted) ≡ false
+    → Leads (at_plan (setting a (soft_state from) next) t) u [] (at_plan (set_up a (soft_state from) next) t) u
+set_from a from u next t free room = led_same Idle 0 _ (lower (set_up a (soft_state from) next) t) u
+    (ap (λ b. lower (if b then say (Line.SoftIsSet a) (next (soft_state from)) else full_or a (soft_state from) next) t) free
+    ∙ ap (λ b. lower (if b then say Line.NoFreeSoftBreak (next (soft_state from)) else set_up a (soft_state from) next) t) room)
+
+-- a hart runs
+pub set_running : (a h : ℕ) (from to : SoftSession) (old new : Tells) → is_listed from.table.addresses a ≡ false
+    → (length from.table.addresses == most_planted) ≡ false → PreparedLed from.table.addresses old new (prepared_as.Running h) → to.table ≡ from.table
+    → state_of to.session ≡ state_of from.session → (next : SoftState → Plan) (t : Table) → Holds from.table t
+    → Onto to.table (λ k. Leads (at_plan (setting a (soft_state from) next) t) old [] (at_plan (say (Line.IsRunning h) (next (soft_state to))) k) new)
+set_running a h from to old new free room looks is same next t holds =
+    let state : soft_state to ≡ soft_state from = (λ i. record { plain = same i; planted = (ap (λ (p : Patches). p.addresses) is) i }) in
+    record {
+      table = t;
+      holds = subst (λ p. Holds p t) (sym is) holds;
+      leads = led_then (at_plan (setting a (soft_state from) next) t) (at_plan (say (Line.IsRunning h) (next (soft_state from))) t)
+          (at_plan (say (Line.IsRunning h) (next (soft_state to))) t) old new new [] []
+          (led_then (at_plan (setting a (soft_state from) next) t) (at_plan (set_up a (soft_state from) next) t)
+          (at_plan (say (Line.IsRunning h) (next (soft_state from))) t) old old new [] []
+          (set_from a from old next t free room)
+          (looks (next (soft_state from)) (planting a (next (soft_state from)) (next (record (soft_state from) { planted = put_in a from.table.addresses }))) t))
+          (led_same Idle 0 _ (lower (say (Line.IsRunning h) (next (soft_state to))) t) new (ap (λ s. lower (say (Line.IsRunning h) (next s)) t) (sym state)));
+    }
+
+-- the word was covered, or lies outside memory
+pub set_done : (a : ℕ) (held : Bool) (line : Line) (from to : SoftSession) (old mid new : Tells) → is_listed from.table.addresses a ≡ false
+    → (length from.table.addresses == most_planted) ≡ false → PreparedLed from.table.addresses old mid prepared_as.Ready
+    → PlantedLed a from.table to.table mid new held → to.table.addresses ≡ planted_list a held from.table.addresses
+    → state_of to.session ≡ state_of from.session → line ≡ planted_line a held → (next : SoftState → Plan) (t : Table) → Holds from.table t
+    → Onto to.table (λ k. Leads (at_plan (setting a (soft_state from) next) t) old [] (at_plan (say line (next (soft_state to))) k) new)
+set_done a held line from to old mid new free room looks plants list same said next t holds =
+    let set : SoftState = record (soft_state from) { planted = put_in a from.table.addresses } in
+    let o : Onto to.table (λ u. Leads (at_plan (planting a (next (soft_state from)) (next set)) t) mid []
+    (at_plan (behind_planting a held (next (soft_state from)) (next set)) u) new) =
+    plants (next (soft_state from)) (next set) t holds in
+    let state : soft_state to ≡ record { plain = state_of from.session; planted = planted_list a held from.table.addresses } =
+    (λ i. record { plain = same i; planted = list i }) in
+    record {
+      table = o.table;
+      holds = o.holds;
+      leads = led_then (at_plan (setting a (soft_state from) next) t) (at_plan (behind_planting a held (next (soft_state from)) (next set)) o.table)
+          (at_plan (say line (next (soft_state to))) o.table) old new new [] []
+          (led_then (at_plan (setting a (soft_state from) next) t) (at_plan (planting a (next (soft_state from)) (next set)) t)
+          (at_plan (behind_planting a held (next (soft_state from)) (next set)) o.table) old mid new [] []
+          (led_then (at_plan (setting a (soft_state from) next) t) (at_plan (set_up a (soft_state from) next) t)
+          (at_plan (planting a (next (soft_state from)) (next set)) t) old old mid [] [] (set_from a from old next t free room)
+          (looks (next (soft_state from)) (planting a (next (soft_state from)) (next set)) t))
+          o.leads)
+          (led_same Idle 0 _ (lower (say line (next (soft_state to))) o.table) new
+          (ap (λ p. lower p o.table) (planted_so a held from next)
+          ∙ ap (λ l. lower (say l (next (record { plain = state_of from.session; planted = planted_list a held from.table.addresses }))) o.table) (sym said)
+          ∙ ap (λ s. lower (say line (next s)) o.table) (sym state)));
     }

@@ -13,7 +13,10 @@ use Rattle.abstract_debugger.specs.Plan.Plan.{change, say, see, stop, take}
 use Rattle.abstract_debugger.specs.Plan.PlanEnd.{NoAck, NoHalt}
 use Rattle.abstract_debugger.specs.Ways.Way.{Ready, Still}
 use Rattle.probe_run.specs.Acts.{Tells}
+use Rattle.printed_lines.specs.declared.line.Line.{Line as PrintedLine}
 use Rattle.probe_session.specs.Calls.{Got}
+use Rattle.probe_session.specs.Commands.{at_stop_line, ends_with}
+use Rattle.probe_session.specs.Said.{said_by}
 use Rattle.probe_session.specs.Goes.{Went}
 use Rattle.probe_session.specs.Going.{Branches, at_one, behind_one}
 use Rattle.probe_session.specs.Led.{Leads}
@@ -27,7 +30,7 @@ use Rattle.soft_laws.specs.SoftDebugger.{covering, lifting, one_by, pc_at, pc_he
 use Rattle.soft_break.specs.Leading.{CoverLeads, LiftLeads}
 use Rattle.soft_break.specs.Patches.{Patches, original_of}
 use Rattle.soft_session.specs.Led.{Onto}
-use Rattle.soft_session.specs.Stepping.{OneLed, OntoBranches, OverLed, PcRead, StepLed, behind_whole}
+use Rattle.soft_session.specs.Stepping.{GoneLed, OneLed, OverLed, PcRead, StepLed, behind_whole}
 use Rattle.soft_session.specs.Tables.{Holds}
 use Rattle.soft_session.proofs.LedLemmas.{led_at, led_same, led_step, led_then}
 use Rattle.soft_session.proofs.LowerLemmas.{lower_if, lower_see, lower_until}
@@ -91,7 +94,8 @@ over_led h at p is_whole old lifted stood new set lifts steps covers stepped oth
     record {
       table = patched_table true at w t1;
       holds = holds_again at w p t set refl holds;
-      leads = led_then from (behind_whole is_whole h (lower a t1) (lower b t1)) _ old stood new [] []
+      leads = led_then from (behind_whole is_whole h (lower a t1) (lower b t1))
+          (behind_whole is_whole h (lower stepped (patched_table true at w t1)) (lower other (patched_table true at w t1))) old stood new [] []
           (led_then from (at_one h branches) (behind_whole is_whole h (lower a t1) (lower b t1)) old lifted stood [] []
           (led_then from (still h (lower (one h a b) t1)) (at_one h branches) old lifted lifted [] []
           (led_at Still h _ (lower (one h a b) t1) old lifted (lifts (λ original. one h (covering at original stepped) (covering at original other)) t
@@ -171,7 +175,8 @@ one_over h at p is_whole old mid new (PcRead.there got set) over stepped other t
     record {
       table = o.table;
       holds = o.holds;
-      leads = led_then from (still h (lower (one_by true at h stepped other) t)) _ old mid new [] []
+      leads = led_then from (still h (lower (one_by true at h stepped other) t)) (behind_whole is_whole h (lower stepped o.table) (lower other o.table)) old mid
+          new [] []
           (led_then from (still h (plan at)) (still h (lower (one_by true at h stepped other) t)) old mid mid [] []
           (led_then from (still h (see (λ b. plan (pc_at h b)))) (still h (plan at)) old old mid [] []
           (led_same Still h (lower (soft_one p.addresses h stepped other) t) (see (λ b. plan (pc_at h b))) old
@@ -180,3 +185,16 @@ one_over h at p is_whole old mid new (PcRead.there got set) over stepped other t
           (led_same Still h (plan at) (lower (one_by true at h stepped other) t) mid (ap (λ x. lower (one_by x at h stepped other) t) set)))
           o.leads;
     }
+
+-- ---- a hart that goes, or says where it stands
+
+pub gone_whole : (h : ℕ) (is_whole : Bool) (line : PrintedLine) (old new : Tells) → is_whole ≡ true
+    → Went (λ next. ready h (going h (say Line.Resumed next))) (ends_with (said_by line)) [] old new → GoneLed h is_whole old new line
+gone_whole h is_whole line old new is went =
+    subst (λ b. GoneLed h b old new line) (sym is) (λ next. goes_lead (ready h (going h (say Line.Resumed next))) (ends_with (said_by line) next) old new []
+    (went.goes next))
+
+pub gone_other : (h : ℕ) (is_whole : Bool) (line : PrintedLine) (old new : Tells) → is_whole ≡ false
+    → Went (at_stop_line h) (ends_with (said_by line)) [] old new → GoneLed h is_whole old new line
+gone_other h is_whole line old new is went =
+    subst (λ b. GoneLed h b old new line) (sym is) (λ next. goes_lead (at_stop_line h next) (ends_with (said_by line) next) old new [] (went.goes next))
