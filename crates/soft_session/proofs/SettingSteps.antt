@@ -85,10 +85,12 @@ one_look : (next ready : Plan) (t : Table) (h : ℕ) (s : Seen) (old mid new : T
 one_look next ready t h s old mid new few below look =
     let less : h < 1024 = few in
     let k : ℕ = 1023 - h in
-    let all : h + suc k ≡ 1024 = omega (arith, less) in
-    (k, Goes.step (Goes.step (below_goes next ready t below (suc k) all) (Step.same (preparing_suc k h next ready t)))
-    (Step.looks (lower ready t) (lower (say (Line.IsRunning h) next) t) (change (EbreakHalts h true) (lower (preparing k (h + 1) next ready) t))
-    (look_made h s mid new look)))
+    let all : h + suc k ≡ 1024 = omega (arith, less) in (
+      k,
+      Goes.step (Goes.step (below_goes next ready t below (suc k) all) (Step.same (preparing_suc k h next ready t)))
+          (Step.looks (lower ready t) (lower (say (Line.IsRunning h) next) t) (change (EbreakHalts h true) (lower (preparing k (h + 1) next ready) t))
+          (look_made h s mid new look)),
+    )
 
 all_set : (next ready : Plan) (t : Table) (old new : Tells) → AllSet old new → Leads (at_plan (preparing most_harts 0 next ready) t) old [] (at_plan ready t) new
 all_set next ready t old new (AllSet.up_to {h} {mid} few below look) =

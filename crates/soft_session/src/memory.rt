@@ -204,14 +204,6 @@ pub(crate) fn write<D: Dmi>(
 {
     match reach(soft, link)? {
         Reached::Says(line) => Ok(line),
-        Reached::By(way) => written_line(
-            link,
-            &way,
-            &mut soft.table,
-            size,
-            address,
-            value,
-            count,
-        ),
+        Reached::By(way) => written_line(link, &way, &mut soft.table, size, address, value, count),
     }
 }
