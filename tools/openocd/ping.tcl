@@ -3,6 +3,11 @@
 
 proc word {address} { return [read_memory $address 32 1] }
 
+# The chip gets on only while TCK rises: each read is 46 rises or more.
+proc let_run {} {
+    for {set number 0} {$number < 200} {incr number} { riscv dmi_read 0x11 }
+}
+
 # The hart is stepped with dcsr.stepie set: OpenOCD 0.12 leaves it as it is, and without it a step takes no interrupt.
 proc step_with_interrupts {} {
     set_reg [list dcsr [format 0x%x [expr {[regs dcsr] | (1 << 11)}]]]
@@ -51,7 +56,7 @@ proc drive_ping {handler wait} {
     resume
     targets chip.cpu0
     resume
-    sleep 50
+    let_run
     halt
     wait_halt 5000
     set first [regs s3]
