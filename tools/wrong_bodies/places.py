@@ -20,10 +20,16 @@ def edits_in(folder):
     return [f"{folder}/{name}" for name in sorted(os.listdir(folder)) if name.endswith(".edit")] if os.path.isdir(folder) else []
 
 
-def edits_of(crate, since):
-    """The edits of a crate that are to be tried, by their paths."""
-    gated = [] if since is not None else edits_in(f"{crate.folder}/must-fail")
-    return gated + edits_in(f"{crate.folder}/wrong-bodies")
+def edits_of(crate, since, names=frozenset()):
+    """The edits of a crate that are to be tried, by their paths: those with these names, or all where none is named. Stops at a name that none has."""
+    folders = [f"{crate.folder}/{it}" for it in ("must-fail", "wrong-bodies")]
+    if not names:
+        return [path for it in folders[since is not None :] for path in edits_in(it)]
+    found = {os.path.basename(path).removesuffix(".edit"): path for it in folders for path in edits_in(it)}
+    unknown = {*names} - {*found}
+    if unknown:
+        stop(f"{crate.name} has no edit {' '.join(sorted(unknown))}")
+    return [found[it] for it in sorted(names)]
 
 
 def is_of_gate(crate, since):

@@ -190,6 +190,7 @@ lines_read = record {
   freed = refl;
   running = refl;
   refused = refl;
+  loaded = refl;
   soft = refl;
   not_soft = refl;
   register = refl;

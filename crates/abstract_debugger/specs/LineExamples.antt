@@ -18,6 +18,7 @@ pub record LinesRead : Type 0 where
   pub freed : text_of (Line.Slot 2 Unused false) ≡ codes "slot 2 free" ++ 10 ∷ []
   pub running : text_of (Line.IsRunning 1) ≡ codes "error: hart 1 is running" ++ 10 ∷ []
   pub refused : text_of (Line.RegisterRefused 0xf14) ≡ codes "error: register mhartid refused" ++ 10 ∷ []
+  pub loaded : text_of (Line.Loaded 16) ≡ codes "loaded 16" ++ 10 ∷ []
   pub soft : text_of (Line.SoftSet 0x80000008) ≡ codes "soft 0x0000000080000008 set" ++ 10 ∷ []
   pub not_soft : text_of (Line.SoftNotSet 0x80000000) ≡ codes "error: soft 0x0000000080000000 not set" ++ 10 ∷ []
   pub register : text_of (Line.Register 0x1005 15) ≡ codes "x5 0x000000000000000f" ++ 10 ∷ []

@@ -27,6 +27,7 @@ pub data Line : Type 0 where
   Via : (path : Path) → Line
   Ebreak : (is_on : Bool) → Line
   Slot : (slot : ℕ) → (used : Use) → (hit : Bool) → Line
+  Loaded : (count : ℕ) → Line
   SoftSet : (address : ℕ) → Line
   SoftClear : (address : ℕ) → Line
   NoHart : (hart : ℕ) → Line
@@ -117,6 +118,7 @@ words_of_line (Row address bytes) = spelled_address address ++ codes " " ++ flat
 words_of_line (Via path) = codes "via " ++ spelled_path path
 words_of_line (Ebreak is_on) = codes "ebreak " ++ spelled_switch is_on
 words_of_line (Slot slot used hit) = codes "slot " ++ decimal slot ++ codes " " ++ spelled_use used ++ spelled_hit hit
+words_of_line (Loaded count) = codes "loaded " ++ decimal count
 words_of_line (SoftSet address) = codes "soft " ++ spelled_address address ++ codes " set"
 words_of_line (SoftClear address) = codes "soft " ++ spelled_address address ++ codes " clear"
 words_of_line (NoHart hart) = codes "error: no hart " ++ decimal hart

@@ -131,7 +131,7 @@ memory_again image ram harts most fits =
 
 -- ---- harts
 
-length_harts : (v : Version) (harts : ℕ) (halted : Option Cause) → length (loaded_harts v harts halted) ≡ harts
+pub length_harts : (v : Version) (harts : ℕ) (halted : Option Cause) → length (loaded_harts v harts halted) ≡ harts
 length_harts v zero halted = refl
 length_harts v (suc n) halted = let more : _ = length-append (loaded_harts v n halted) (reset_hart v n halted ∷ []) in
     omega (arith, ap length (one_hart_more v n halted), more, length_harts v n halted)

@@ -2,6 +2,6 @@ mod Asked
 mod BenchPuts
 mod Crossings
 mod Exchanges
-mod FreshChips
+pub mod FreshChips
 mod Lives
 mod Loops

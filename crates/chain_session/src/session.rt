@@ -1,15 +1,18 @@
 //! A session over a wire to a chain, and the end of its stream.
 
-ghost use Rattle.std.specs.Prelude.{◌≡◌, ◌≤◌};
+ghost use Rattle.std.specs.Prelude.{◌≡◌, ◌≤◌, Some};
 ghost use Rattle.debug_model.specs.Dmi.{CanOperate};
 ghost use Rattle.debug_model.specs.Told.{IsAsLoaded, IsRead};
+ghost use Rattle.wire_session.specs.Budget.{WithinBudget};
 ghost use Rattle.wire_session.specs.Closing.{IsOfRegister};
 ghost use Rattle.wire_session.specs.Session.{LeavesWire, told_by};
-ghost use Rattle.wire_session.specs.WireSession.{IsTimed, WireSession};
+ghost use Rattle.wire_session.specs.WireSession.{IsTimed, WireSession, WireUpTo};
 ghost use Rattle.probe_session.specs.Causes.{EndCaused, SinkCaused};
 ghost use Rattle.probe_session.specs.Scripts.{EndedAs};
 ghost use Rattle.probe_session.specs.Transcribed.{TranscribedAs};
+ghost use Rattle.probe_session.specs.UnderWay.{EndedUpTo};
 ghost use Rattle.chain_scan.specs.Bypassed.{IsPlannedTold};
+ghost use Rattle.chain_scan.specs.ChainSeen.{chain_slack};
 ghost use Rattle.chain_scan.specs.Told.{chip_told};
 
 use crate::stream_end::end_chain_stream;
@@ -37,6 +40,10 @@ fn run_over<W: ChainWire, K: Sink>(
     ensures sink_cause { SinkCaused (K.fault_count out.old) (K.fault_count out.new) result.0 }
     ensures transcribed { TranscribedAs script.now (K.contents out.old) (K.contents out.new) (chip_told (W.far wire)) (chip_told (W.far result.1))
         result.0 }
+    ensures up_to { EndedUpTo script.now (W.fault_count wire) (W.fault_count result.1) (told_by (chip_told (W.far wire)) (W.coming wire))
+        (told_by (chip_told (W.far result.1)) (W.coming result.1)) (K.fault_count out.old) (K.fault_count out.new) (K.contents out.old)
+        (K.contents out.new) result.0 }
+    ensures rises { WithinBudget (Some chain_slack) script.now (chip_told (W.far wire)) (chip_told (W.far result.1)) }
     ensures leaves { LeavesWire (chip_told (W.far result.1)) result.0 }
     ensures later { W.fault_count wire ≤ W.fault_count result.1 }
     ensures ties { W.ties result.1 ≡ W.ties wire }
@@ -67,6 +74,13 @@ pub fn run_chain_session<W: ChainWire, K: Sink>(
         (record { printed = K.contents out.old; faults = K.fault_count out.old })
         (record { printed = K.contents out.new; faults = K.fault_count out.new })
         result }
+    ensures up_to { WireUpTo script.now
+        (record { far = chip_told (W.far wire.old); coming = W.coming wire.old; faults = W.fault_count wire.old })
+        (record { far = chip_told (W.far wire.new); coming = W.coming wire.new; faults = W.fault_count wire.new })
+        (record { printed = K.contents out.old; faults = K.fault_count out.old })
+        (record { printed = K.contents out.new; faults = K.fault_count out.new })
+        result }
+    ensures rises { WithinBudget (Some chain_slack) script.now (chip_told (W.far wire.old)) (chip_told (W.far wire.new)) }
     ensures of_register { IsOfRegister result }
     ensures sink_cause { SinkCaused (K.fault_count out.old) (K.fault_count out.new) result }
     ensures ties { W.ties wire.new ≡ W.ties wire.old }

@@ -2,6 +2,7 @@
 
 ghost use Rattle.std.specs.Prelude.{◌≡◌, Some, None, IsSome};
 ghost use Rattle.chip_core.specs.Feeds.{counts_of, harts_of, journal_of, limit_met, memory_of};
+ghost use Rattle.chip_core.specs.Limits.{MeetsLimitRightly};
 ghost use Rattle.std.specs.Prelude.{[], is_some};
 
 mod feed;
@@ -104,6 +105,15 @@ impl<Q: Schedule> Bench<Q> {
                 dmi_busy: 0,
                 dmi_failed: 0,
             },
+        }
+    }
+
+    /// That a chip which ended at its limit has more points than it may have, or as many rounds, as its type promises.
+    pub fn know_limit(&self)
+        ensures { MeetsLimitRightly self.now }
+    {
+        if let Some(chip) = &self.chip {
+            chip.know_limit();
         }
     }
 

@@ -5,6 +5,7 @@ ghost use Rattle.arrayvec.specs.ArrayVec.{array_vec_len};
 ghost use Rattle.debug_model.specs.Chip.{after, answer, answer_byte, at_limit, end_of, fall, pins, rise, rise_end, taken_by};
 ghost use Rattle.debug_model.specs.Wire.{piece_most};
 ghost use Rattle.chip_core.specs.Counted.{IsCounted};
+ghost use Rattle.chip_core.specs.Limits.{EndsAtLimit};
 ghost use Rattle.chip_core.specs.Parts.{Parts, chip_of};
 
 use crate::bench::Answers;
@@ -28,6 +29,7 @@ impl<Q: Schedule> Model for Chip<Q> {
     ghost use Rattle.rv_model.specs.Memory.{memory_code};
     ghost use Rattle.debug_model.specs.Chip.{Live};
     ghost use Rattle.chip_core.specs.Counted.{IsCounted, spare};
+    ghost use Rattle.chip_core.specs.Limits.{EndsAtLimit};
     ghost use Rattle.chip_core.specs.Parts.{chip_of};
 
     ghost Value = { Live };
@@ -36,7 +38,7 @@ impl<Q: Schedule> Model for Chip<Q> {
 
     ghost view = { λ c. record { chip = chip_of c.clock c.system (Q.plan c.schedule); ended = c.ending } };
 
-    ghost invariant = { λ c. IsCounted (spare c.clock) c.system.works };
+    ghost invariant = { λ c. IsCounted (spare c.clock) c.system.works × EndsAtLimit c.ending c.system.works };
 }
 
 /// The character that answers a question about TDO.
@@ -70,6 +72,13 @@ impl<Q: Schedule> Chip<Q> {
         ensures works { result.now.works ≡ self.now.chip.inside.works }
     {
         &self.system
+    }
+
+    /// That what ended a chip by its limit is a rise that found it met, as its type promises.
+    pub(crate) fn know_limit(&self)
+        ensures { EndsAtLimit self.now.ended self.now.chip.inside.works }
+    {
+        let _ = &self.clock;
     }
 
     /// What ended the chip.

@@ -1,6 +1,6 @@
 -- The numbers of a job are within their ranges, whatever the words are.
 use Rattle.std.proofs.Common.{◌≡◌, ℕ, ◌&&◌, Bool, true, false, cond, nat_le, List, [], ◌∷◌, Option, Some, None, bytes_eq, codes, refl, ap, subst, arith}
-use Rattle.std.proofs.Common.{Result, Ok, Err, IfOk}
+use Rattle.std.proofs.Common.{Result, Ok, Err, IfOk, is_some}
 use Rattle.std.proofs.lemmas.Bool.Decides.{nat_tests}
 use Rattle.std.proofs.lemmas.Option.{none-some, same_Some}
 use Rattle.clap.specs.Words.{Row}
@@ -13,7 +13,10 @@ use Rattle.chain_scan.specs.ChainPlan.{Plan}
 use Rattle.command_line.specs.declared.job.Way.{Way}
 use Rattle.command_line.specs.Job.{Gives, InputsValue, JobValue, Text, job_value}
 use Rattle.command_line.specs.Options.{both_command, chip_command, probe_command, sniff_command}
-use Rattle.command_line.specs.WrittenJob.{HasRanges, InRange, OptionsInRange, both_from, both_in, both_of, chip_from, chip_in, chip_of, job_by, job_of}
+use Rattle.command_line.specs.WrittenJob.{HasRanges, InRange, OptionsInRange, both_by, both_from, both_in, both_of, chip_from, chip_in, chip_of}
+use Rattle.command_line.specs.WrittenJob.{elf_from, elf_in, image_in, is_elf_alone, is_probe_soft_alone, is_soft_alone, job_by, job_of, plain_by, plain_in}
+use Rattle.command_line.specs.WrittenJob.{probe_by, probe_elf_from, probe_elf_in, probe_plain_by, probe_plain_in, probe_script_in, probe_soft_from}
+use Rattle.command_line.specs.WrittenJob.{probe_soft_in, soft_from, soft_in}
 use Rattle.command_line.specs.Numbers.{◌>>=◌}
 use Rattle.command_line.specs.WrittenJob.{busy_unsaid, events_unsaid, harts_unsaid, piece_unsaid, ram_unsaid, seed_unsaid}
 use Rattle.command_line.specs.WrittenJob.{least_busy, least_events, least_piece, most_busy, most_events}
@@ -77,11 +80,63 @@ both_ranges_by (Some i) (Some o) None way v ranges small e = none v e
 both_ranges_by (Some i) None piece way v ranges small e = none v e
 both_ranges_by None options piece way v ranges small e = none v e
 
-both_ranges : (rows : List Row) (v : JobValue) → both_in rows ≡ Some v → HasRanges v
-unfolding both_in
-both_ranges rows v e = both_ranges_by (inputs_in rows) (options_in rows) (ranged_in rows (codes "piece") piece_unsaid least_piece piece_most)
+image_ranges : (rows : List Row) (v : JobValue) → image_in rows ≡ Some v → HasRanges v
+unfolding image_in
+image_ranges rows v e = both_ranges_by (inputs_in rows) (options_in rows) (ranged_in rows (codes "piece") piece_unsaid least_piece piece_most)
     (way_in rows) v
     (λ o is. options_range rows o is) (λ n is. ranged_is rows (codes "piece") piece_unsaid least_piece piece_most n is) e
+
+elf_ranges_by : (file script : Option Text) (options : Option ChipOptions) (piece : Option ℕ) (v : JobValue)
+    → ((o : ChipOptions) → options ≡ Some o → OptionsInRange o) → ((n : ℕ) → piece ≡ Some n → InRange least_piece piece_most n)
+    → elf_from file script options piece ≡ Some v → HasRanges v
+elf_ranges_by (Some f) (Some s) (Some o) (Some n) v ranges small e = subst HasRanges (same_Some _ v e) (small n refl, ranges o refl)
+elf_ranges_by (Some f) (Some s) (Some o) None v ranges small e = none v e
+elf_ranges_by (Some f) (Some s) None piece v ranges small e = none v e
+elf_ranges_by (Some f) None options piece v ranges small e = none v e
+elf_ranges_by None script options piece v ranges small e = none v e
+
+alone_ranges : (alone : Bool) (said : Option JobValue) (v : JobValue) → (said ≡ Some v → HasRanges v) → cond alone said None ≡ Some v → HasRanges v
+alone_ranges true said v ranges e = ranges e
+alone_ranges false said v ranges e = none v e
+
+elf_ranges : (rows : List Row) (v : JobValue) → elf_in rows ≡ Some v → HasRanges v
+unfolding elf_in
+elf_ranges rows v e = alone_ranges (is_elf_alone rows) _ v
+    (λ is. elf_ranges_by (value_in rows (codes "elf")) (value_in rows (codes "script")) (options_in rows)
+    (ranged_in rows (codes "piece") piece_unsaid least_piece piece_most) v (λ o is. options_range rows o is)
+    (λ n is. ranged_is rows (codes "piece") piece_unsaid least_piece piece_most n is) is) e
+
+plain_by_ranges : (file : Option Text) (rows : List Row) (v : JobValue) → plain_by file rows ≡ Some v → HasRanges v
+plain_by_ranges None rows v e = image_ranges rows v e
+plain_by_ranges (Some file) rows v e = elf_ranges rows v e
+
+plain_ranges : (rows : List Row) (v : JobValue) → plain_in rows ≡ Some v → HasRanges v
+unfolding plain_in
+plain_ranges rows v e = plain_by_ranges (value_in rows (codes "elf")) rows v e
+
+soft_ranges_by : (image script : Option Text) (options : Option ChipOptions) (piece : Option ℕ) (v : JobValue)
+    → ((o : ChipOptions) → options ≡ Some o → OptionsInRange o) → ((n : ℕ) → piece ≡ Some n → InRange least_piece piece_most n)
+    → soft_from image script options piece ≡ Some v → HasRanges v
+soft_ranges_by (Some i) (Some s) (Some o) (Some n) v ranges small e = subst HasRanges (same_Some _ v e) (small n refl, ranges o refl)
+soft_ranges_by (Some i) (Some s) (Some o) None v ranges small e = none v e
+soft_ranges_by (Some i) (Some s) None piece v ranges small e = none v e
+soft_ranges_by (Some i) None options piece v ranges small e = none v e
+soft_ranges_by None script options piece v ranges small e = none v e
+
+soft_ranges : (rows : List Row) (v : JobValue) → soft_in rows ≡ Some v → HasRanges v
+unfolding soft_in
+soft_ranges rows v e = alone_ranges (is_soft_alone rows) _ v
+    (λ is. soft_ranges_by (value_in rows (codes "image")) (value_in rows (codes "script")) (options_in rows)
+    (ranged_in rows (codes "piece") piece_unsaid least_piece piece_most) v (λ o is. options_range rows o is)
+    (λ n is. ranged_is rows (codes "piece") piece_unsaid least_piece piece_most n is) is) e
+
+both_by_ranges : (soft : Bool) (rows : List Row) (v : JobValue) → both_by soft rows ≡ Some v → HasRanges v
+both_by_ranges false rows v e = plain_ranges rows v e
+both_by_ranges true rows v e = soft_ranges rows v e
+
+both_ranges : (rows : List Row) (v : JobValue) → both_in rows ≡ Some v → HasRanges v
+unfolding both_in
+both_ranges rows v e = both_by_ranges (flag_in rows (codes "soft")) rows v e
 
 probe_ranges_by : (at script : Option Text) (chain : Option (Option Plan)) (v : JobValue) → probe_from at script chain ≡ Some v → HasRanges v
 probe_ranges_by (Some a) (Some s) (Some c) v e = subst HasRanges (same_Some _ v e) tt
@@ -89,9 +144,48 @@ probe_ranges_by (Some a) (Some s) None v e = none v e
 probe_ranges_by (Some a) None chain v e = none v e
 probe_ranges_by None script chain v e = none v e
 
+probe_script_ranges : (rows : List Row) (v : JobValue) → probe_script_in rows ≡ Some v → HasRanges v
+unfolding probe_script_in
+probe_script_ranges rows v e = probe_ranges_by (value_in rows (codes "at")) (value_in rows (codes "script")) (chain_in rows) v e
+
+probe_elf_ranges_by : (chained : Bool) (at file script : Option Text) (v : JobValue) → cond chained None (probe_elf_from at file script) ≡ Some v → HasRanges v
+probe_elf_ranges_by true at file script v e = none v e
+probe_elf_ranges_by false (Some a) (Some f) (Some s) v e = subst HasRanges (same_Some _ v e) tt
+probe_elf_ranges_by false (Some a) (Some f) None v e = none v e
+probe_elf_ranges_by false (Some a) None script v e = none v e
+probe_elf_ranges_by false None file script v e = none v e
+
+probe_elf_ranges : (rows : List Row) (v : JobValue) → probe_elf_in rows ≡ Some v → HasRanges v
+unfolding probe_elf_in
+probe_elf_ranges rows v e =
+    probe_elf_ranges_by (is_some (value_in rows (codes "chain"))) (value_in rows (codes "at")) (value_in rows (codes "elf"))
+    (value_in rows (codes "script")) v e
+
+probe_plain_by_ranges : (file : Option Text) (rows : List Row) (v : JobValue) → probe_plain_by file rows ≡ Some v → HasRanges v
+probe_plain_by_ranges None rows v e = probe_script_ranges rows v e
+probe_plain_by_ranges (Some file) rows v e = probe_elf_ranges rows v e
+
+probe_plain_ranges : (rows : List Row) (v : JobValue) → probe_plain_in rows ≡ Some v → HasRanges v
+unfolding probe_plain_in
+probe_plain_ranges rows v e = probe_plain_by_ranges (value_in rows (codes "elf")) rows v e
+
+probe_soft_ranges_by : (at script : Option Text) (v : JobValue) → probe_soft_from at script ≡ Some v → HasRanges v
+probe_soft_ranges_by (Some a) (Some s) v e = subst HasRanges (same_Some _ v e) tt
+probe_soft_ranges_by (Some a) None v e = none v e
+probe_soft_ranges_by None script v e = none v e
+
+probe_soft_ranges : (rows : List Row) (v : JobValue) → probe_soft_in rows ≡ Some v → HasRanges v
+unfolding probe_soft_in
+probe_soft_ranges rows v e =
+    alone_ranges (is_probe_soft_alone rows) _ v (probe_soft_ranges_by (value_in rows (codes "at")) (value_in rows (codes "script")) v) e
+
+probe_by_ranges : (soft : Bool) (rows : List Row) (v : JobValue) → probe_by soft rows ≡ Some v → HasRanges v
+probe_by_ranges false rows v e = probe_plain_ranges rows v e
+probe_by_ranges true rows v e = probe_soft_ranges rows v e
+
 probe_ranges : (rows : List Row) (v : JobValue) → probe_in rows ≡ Some v → HasRanges v
 unfolding probe_in
-probe_ranges rows v e = probe_ranges_by (value_in rows (codes "at")) (value_in rows (codes "script")) (chain_in rows) v e
+probe_ranges rows v e = probe_by_ranges (flag_in rows (codes "soft")) rows v e
 
 chip_ranges_by : (at image : Option Text) (options : Option ChipOptions) (chain : Option (Option Plan)) (v : JobValue)
     → ((o : ChipOptions) → options ≡ Some o → OptionsInRange o) → chip_from at image options chain ≡ Some v → HasRanges v

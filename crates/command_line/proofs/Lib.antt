@@ -6,5 +6,6 @@ pub mod JobLemmas
 pub mod JobRanges
 pub mod RangeLemmas
 pub mod RowLemmas
+pub mod SoftWriting
 pub mod Whys
 pub mod Writing

@@ -1,6 +1,6 @@
 -- What is named of words, by the command that their first word names.
-use Rattle.std.proofs.Common.{◌≡◌, Bool, true, false, bytes_eq, cond, codes, List, [], ◌∷◌, Option, Some, None, map, refl, sym, ap, subst, ◌∙◌}
-use Rattle.std.proofs.Common.{string_bytes, Result, Ok, Err, Global}
+use Rattle.std.proofs.Common.{◌≡◌, Bool, true, false, bytes_eq, cond, codes, List, [], ◌∷◌, Option, Some, None, map, refl, sym, ap, subst}
+use Rattle.std.proofs.Common.{string_bytes, Result, Global}
 use Rattle.std.specs.Prelude.{String, slice_get, IfErr}
 use Rattle.clap.specs.Words.{App, Row}
 use Rattle.command_line.specs.Job.{Text}
@@ -20,6 +20,10 @@ names_taken found rows (whys.NoNumber option word) is names = (rows, is, names)
 names_taken found rows (whys.OutOfRange option word least most) is names = (rows, is, names)
 names_taken found rows (whys.NoChain list) is names = (rows, is, names)
 names_taken found rows whys.ChainLooped is names = (rows, is, names)
+names_taken found rows (whys.BesideElf option) is names = (rows, is, names)
+names_taken found rows whys.ElfLooped is names = (rows, is, names)
+names_taken found rows (whys.BesideSoft option) is names = (rows, is, names)
+names_taken found rows whys.SoftLooped is names = (rows, is, names)
 names_taken found rows whys.NoMemory is names = tt
 
 pub names_untaken : (command : App) (words : List Text) (why : Refused) → UntakenBy command words why → NamesBy (rows_in command words) why
@@ -32,6 +36,10 @@ names_untaken command words (whys.NoNumber option word) untaken = absurd untaken
 names_untaken command words (whys.OutOfRange option word least most) untaken = absurd untaken
 names_untaken command words (whys.NoChain list) untaken = absurd untaken
 names_untaken command words whys.ChainLooped untaken = absurd untaken
+names_untaken command words (whys.BesideElf option) untaken = absurd untaken
+names_untaken command words whys.ElfLooped untaken = absurd untaken
+names_untaken command words (whys.BesideSoft option) untaken = absurd untaken
+names_untaken command words whys.SoftLooped untaken = absurd untaken
 names_untaken command words whys.NoMemory untaken = tt
 
 chosen : Bool → Bool → Bool → Bool → Option App

@@ -1,21 +1,22 @@
 -- Words of which nothing is at fault write a job.
-use Rattle.std.proofs.Common.{◌≡◌, ℕ, ◌≤◌, ◌-◌, ◌^◌, Bool, true, false, bytes_eq, codes, List, [], ◌∷◌, Option, Some, None, map, refl, sym, ap, subst}
-use Rattle.std.proofs.Common.{◌∙◌, arith}
-use Rattle.std.proofs.Common.{string_bytes, Result, Ok, Err, Global}
-use Rattle.std.specs.Prelude.{IsSome, OnOk, String, slice_get}
+use Rattle.std.proofs.Common.{◌≡◌, ℕ, ◌≤◌, ◌-◌, ◌^◌, Bool, true, false, codes, List, Option, Some, None, map, refl, sym, ap, subst}
+use Rattle.std.proofs.Common.{◌∙◌, arith, cond}
+use Rattle.std.proofs.Common.{string_bytes, Result, Global}
+use Rattle.std.specs.Prelude.{IsSome, OnOk, String, is_some, slice_get}
 use Rattle.clap.specs.Words.{Row}
-use Rattle.debug_model.specs.Loaded.{usual_points}
 use Rattle.debug_model.specs.Wire.{piece_most}
 use Rattle.chain_scan.specs.ChainPlan.{Plan}
 use Rattle.rv_model.specs.declared.version.Version.{Version}
 use Rattle.command_line.specs.declared.job.Way.{Way}
 use Rattle.command_line.specs.Job.{InputsValue, JobValue, Text, gen}
 use Rattle.command_line.specs.Why.{HasNumber}
-use Rattle.command_line.specs.WrittenJob.{both_from, both_in, chain_in, chip_from, chip_in, flag_in, inputs_from, inputs_in, job_by, job_of, number_in}
+use Rattle.command_line.specs.WrittenJob.{both_from, chain_in, chip_from, chip_in, elf_from, elf_in, flag_in, image_in}
+use Rattle.command_line.specs.WrittenJob.{inputs_from, inputs_in, is_elf_alone, job_by, job_of, number_in, plain_by, plain_in, probe_elf_from, probe_elf_in}
+use Rattle.command_line.specs.WrittenJob.{probe_plain_by, probe_plain_in, probe_script_in, stands_alone}
 use Rattle.command_line.specs.Numbers.{◌>>=◌}
 use Rattle.command_line.specs.WrittenJob.{number_or}
 use Rattle.command_line.specs.Numbers.{number_of}
-use Rattle.command_line.specs.WrittenJob.{options_from, options_in, probe_from, probe_in, ranged_in, sniff_from, sniff_in, value_in, way_in}
+use Rattle.command_line.specs.WrittenJob.{options_from, options_in, probe_from, ranged_in, sniff_from, sniff_in, value_in, way_in}
 use Rattle.command_line.specs.WrittenJob.{busy_unsaid, harts_unsaid, least_busy, least_events, least_piece, most_busy, most_events, piece_unsaid, ram_unsaid}
 use Rattle.command_line.specs.WrittenJob.{seed_unsaid, events_unsaid}
 use Rattle.command_line.specs.Numbers.{within}
@@ -110,10 +111,50 @@ both_from_is (Some i) (Some o) None w a b c d = cc
 both_from_is (Some i) (Some o) (Some p) None a b c d = cc
 both_from_is (Some i) (Some o) (Some p) (Some w) a b c d = refl
 
-pub both_writes : (rows : List Row) → IsSome (inputs_in rows) → IsSome (options_in rows) → HasNumber rows (codes "piece") least_piece piece_most
-    → IsSome (way_in rows) → IsSome (both_in rows)
-unfolding both_in
-both_writes rows inputs options piece way = both_from_is _ _ _ _ inputs options (piece piece_unsaid (omega arith) (omega arith)) way
+pub image_writes : (rows : List Row) → IsSome (inputs_in rows) → IsSome (options_in rows) → HasNumber rows (codes "piece") least_piece piece_most
+    → IsSome (way_in rows) → IsSome (image_in rows)
+unfolding image_in
+image_writes rows inputs options piece way = both_from_is _ _ _ _ inputs options (piece piece_unsaid (omega arith) (omega arith)) way
+
+elf_from_is : (alone : Bool) (f s : Option Text) (o : Option ChipOptions) (p : Option ℕ) → alone ≡ true → IsSome f → IsSome s → IsSome o → IsSome p
+    → IsSome (cond alone (elf_from f s o p) None)
+elf_from_is false f s o p is a b c d = cc
+elf_from_is true None s o p is a b c d = cc
+elf_from_is true (Some f) None o p is a b c d = cc
+elf_from_is true (Some f) (Some s) None p is a b c d = cc
+elf_from_is true (Some f) (Some s) (Some o) None is a b c d = cc
+elf_from_is true (Some f) (Some s) (Some o) (Some p) is a b c d = refl
+
+pub alone_by : (image number chain : Option Text) (looped : Bool) → image ≡ None → number ≡ None → chain ≡ None → looped ≡ false
+    → stands_alone image number chain looped ≡ true
+alone_by image number chain looped a b c d = λ i. stands_alone (a i) (b i) (c i) (d i)
+
+pub elf_writes : (rows : List Row) → IsSome (value_in rows (codes "elf"))
+    → (IsSome (value_in rows (codes "elf")) → value_in rows (codes "image") ≡ None)
+    → (IsSome (value_in rows (codes "elf")) → value_in rows (codes "gen") ≡ None)
+    → (IsSome (value_in rows (codes "elf")) → value_in rows (codes "chain") ≡ None)
+    → (IsSome (value_in rows (codes "elf")) → flag_in rows (codes "loopback") ≡ false) → IsSome (value_in rows (codes "script")) → IsSome (options_in rows)
+    → HasNumber rows (codes "piece") least_piece piece_most → IsSome (elf_in rows)
+unfolding elf_in is_elf_alone
+elf_writes rows given image number chain straight script options piece =
+    elf_from_is _ _ _ _ _ (alone_by _ _ _ _ (image given) (number given) (chain given) (straight given)) given script options
+    (piece piece_unsaid (omega arith) (omega arith))
+
+both_by_image : (file : Option Text) (rows : List Row) → None ≡ file → IsSome (image_in rows) → IsSome (plain_by file rows)
+both_by_image None rows none writes = writes
+both_by_image (Some file) rows none writes = cc
+
+pub both_with_image : (rows : List Row) → None ≡ value_in rows (codes "elf") → IsSome (image_in rows) → IsSome (plain_in rows)
+unfolding plain_in
+both_with_image rows none writes = both_by_image (value_in rows (codes "elf")) rows none writes
+
+both_by_elf : (file : Option Text) (rows : List Row) → IsSome file → IsSome (elf_in rows) → IsSome (plain_by file rows)
+both_by_elf None rows given writes = cc
+both_by_elf (Some file) rows given writes = writes
+
+pub both_with_elf : (rows : List Row) → IsSome (value_in rows (codes "elf")) → IsSome (elf_in rows) → IsSome (plain_in rows)
+unfolding plain_in
+both_with_elf rows given writes = both_by_elf (value_in rows (codes "elf")) rows given writes
 
 two_are : (f : Option Text → Option Text → Option JobValue) → ((x y : Text) → IsSome (f (Some x) (Some y))) → (a b : Option Text) → IsSome a → IsSome b
     → IsSome (f a b)
@@ -128,9 +169,38 @@ probe_from_is (Some a) (Some s) None x y z = cc
 probe_from_is (Some a) (Some s) (Some c) x y z = refl
 
 pub probe_writes : (rows : List Row) → IsSome (value_in rows (codes "at")) → IsSome (value_in rows (codes "script")) → IsSome (chain_in rows)
-    → IsSome (probe_in rows)
-unfolding probe_in
+    → IsSome (probe_script_in rows)
+unfolding probe_script_in
 probe_writes rows at script chain = probe_from_is _ _ _ at script chain
+
+probe_elf_from_is : (c a f s : Option Text) → c ≡ None → IsSome a → IsSome f → IsSome s → IsSome (cond (is_some c) None (probe_elf_from a f s))
+probe_elf_from_is (Some c) a f s none x y z = cc
+probe_elf_from_is None None f s none x y z = cc
+probe_elf_from_is None (Some a) None s none x y z = cc
+probe_elf_from_is None (Some a) (Some f) None none x y z = cc
+probe_elf_from_is None (Some a) (Some f) (Some s) none x y z = refl
+
+pub probe_elf_writes : (rows : List Row) → IsSome (value_in rows (codes "elf"))
+    → (IsSome (value_in rows (codes "elf")) → value_in rows (codes "chain") ≡ None) → IsSome (value_in rows (codes "at"))
+    → IsSome (value_in rows (codes "script")) → IsSome (probe_elf_in rows)
+unfolding probe_elf_in
+probe_elf_writes rows given chain at script = probe_elf_from_is _ _ _ _ (chain given) at given script
+
+probe_by_script : (file : Option Text) (rows : List Row) → None ≡ file → IsSome (probe_script_in rows) → IsSome (probe_plain_by file rows)
+probe_by_script None rows none writes = writes
+probe_by_script (Some file) rows none writes = cc
+
+pub probe_with_script : (rows : List Row) → None ≡ value_in rows (codes "elf") → IsSome (probe_script_in rows) → IsSome (probe_plain_in rows)
+unfolding probe_plain_in
+probe_with_script rows none writes = probe_by_script (value_in rows (codes "elf")) rows none writes
+
+probe_by_elf : (file : Option Text) (rows : List Row) → IsSome file → IsSome (probe_elf_in rows) → IsSome (probe_plain_by file rows)
+probe_by_elf None rows given writes = cc
+probe_by_elf (Some file) rows given writes = writes
+
+pub probe_with_elf : (rows : List Row) → IsSome (value_in rows (codes "elf")) → IsSome (probe_elf_in rows) → IsSome (probe_plain_in rows)
+unfolding probe_plain_in
+probe_with_elf rows given writes = probe_by_elf (value_in rows (codes "elf")) rows given writes
 
 pub sniff_writes : (rows : List Row) → IsSome (value_in rows (codes "stream")) → IsSome (value_in rows (codes "answers")) → IsSome (sniff_in rows)
 unfolding sniff_in

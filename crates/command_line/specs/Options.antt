@@ -8,17 +8,17 @@ use Rattle.command_line.specs.Job.{Text}
 
 abbrev pub both_options : List Text
 both_options =
-    codes "image" ∷ codes "script" ∷ codes "gen" ∷ codes "harts" ∷ codes "ram" ∷ codes "seed" ∷ codes "busy" ∷ codes "events" ∷ codes "piece"
-    ∷ codes "chain" ∷ []
+    codes "image" ∷ codes "script" ∷ codes "gen" ∷ codes "elf" ∷ codes "harts" ∷ codes "ram" ∷ codes "seed" ∷ codes "busy" ∷ codes "events"
+    ∷ codes "piece" ∷ codes "chain" ∷ []
 
 abbrev pub both_flags : List Text
-both_flags = codes "halted" ∷ codes "loopback" ∷ codes "v013" ∷ []
+both_flags = codes "halted" ∷ codes "loopback" ∷ codes "soft" ∷ codes "v013" ∷ []
 
 abbrev pub probe_options : List Text
-probe_options = codes "at" ∷ codes "script" ∷ codes "chain" ∷ []
+probe_options = codes "at" ∷ codes "script" ∷ codes "elf" ∷ codes "chain" ∷ []
 
 abbrev pub probe_flags : List Text
-probe_flags = []
+probe_flags = codes "soft" ∷ []
 
 abbrev pub chip_options : List Text
 chip_options =

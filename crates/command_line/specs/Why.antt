@@ -1,6 +1,6 @@
 -- Which of the words is why they write no job: what is named is at fault.
 -- The words are this project's own (docs/FORMATS.md, "Words").
-use Rattle.std.specs.Prelude.{true, ◌≡◌, ◌<◌, ◌≤◌, ◌⊎◌, ℕ, ◌-◌, ◌^◌, List, [], ◌∷◌, codes, bytes_eq}
+use Rattle.std.specs.Prelude.{Bool, true, ◌||◌, ◌≡◌, ◌<◌, ◌≤◌, ◌⊎◌, ℕ, ◌-◌, ◌^◌, List, [], ◌∷◌, codes, bytes_eq}
 use Rattle.std.specs.Prelude.{Option, Some, None, Result, Ok, Err, if◌then◌else◌, IsSome}
 use Rattle.clap.specs.Words.{App, Row}
 use Rattle.clap.specs.declared.parser.matches.ArgMatches.{ArgMatches}
@@ -46,6 +46,14 @@ IsOutside least most word = (number : ℕ) × (number_of word ≡ Some number) �
 abbrev pub HasNumber : List Row → Text → ℕ → ℕ → Type 0
 HasNumber rows option least most = (unsaid : ℕ) → least ≤ unsaid → unsaid ≤ most → IsSome (ranged_in rows option unsaid least most)
 
+-- the options that may not stand beside `--elf`
+abbrev pub bars_elf : Text → Bool
+bars_elf option = bytes_eq option (codes "image") || bytes_eq option (codes "gen") || bytes_eq option (codes "chain")
+
+-- the options that may not stand beside `--soft`
+abbrev pub bars_soft : Text → Bool
+bars_soft option = bytes_eq option (codes "elf") || bytes_eq option (codes "gen") || bytes_eq option (codes "chain")
+
 -- of what a command found: the option that is named is at fault
 abbrev pub NamesIn : List Row → Refused → Type 0
 NamesIn rows whys.NoWords = ⊥
@@ -58,6 +66,10 @@ NamesIn rows (whys.OutOfRange option word least most) =
     (value_in rows option.now ≡ Some word.now) × (least ≡ least_of option.now) × (most ≡ most_of option.now) × IsOutside least most word.now
 NamesIn rows (whys.NoChain list) = (value_in rows (codes "chain") ≡ Some list.now) × (plan_of list.now ≡ None)
 NamesIn rows whys.ChainLooped = IsSome (value_in rows (codes "chain")) × (flag_in rows (codes "loopback") ≡ true)
+NamesIn rows (whys.BesideElf option) = (bars_elf option.now ≡ true) × IsSome (value_in rows option.now) × IsSome (value_in rows (codes "elf"))
+NamesIn rows whys.ElfLooped = IsSome (value_in rows (codes "elf")) × (flag_in rows (codes "loopback") ≡ true)
+NamesIn rows (whys.BesideSoft option) = (bars_soft option.now ≡ true) × IsSome (value_in rows option.now) × (flag_in rows (codes "soft") ≡ true)
+NamesIn rows whys.SoftLooped = (flag_in rows (codes "soft") ≡ true) × (flag_in rows (codes "loopback") ≡ true)
 NamesIn rows whys.NoMemory = Unit {0}
 
 -- of what a command finds in words, where it takes them
@@ -71,6 +83,10 @@ NamesBy found (whys.NoNumber option word) = (rows : List Row) × (found ≡ Some
 NamesBy found (whys.OutOfRange option word least most) = (rows : List Row) × (found ≡ Some rows) × NamesIn rows (whys.OutOfRange option word least most)
 NamesBy found (whys.NoChain list) = (rows : List Row) × (found ≡ Some rows) × NamesIn rows (whys.NoChain list)
 NamesBy found whys.ChainLooped = (rows : List Row) × (found ≡ Some rows) × NamesIn rows whys.ChainLooped
+NamesBy found (whys.BesideElf option) = (rows : List Row) × (found ≡ Some rows) × NamesIn rows (whys.BesideElf option)
+NamesBy found whys.ElfLooped = (rows : List Row) × (found ≡ Some rows) × NamesIn rows whys.ElfLooped
+NamesBy found (whys.BesideSoft option) = (rows : List Row) × (found ≡ Some rows) × NamesIn rows (whys.BesideSoft option)
+NamesBy found whys.SoftLooped = (rows : List Row) × (found ≡ Some rows) × NamesIn rows whys.SoftLooped
 NamesBy found whys.NoMemory = Unit {0}
 
 -- of a first word that names no job
@@ -84,6 +100,10 @@ NamesNone job (whys.NoNumber option word) = ⊥
 NamesNone job (whys.OutOfRange option word least most) = ⊥
 NamesNone job (whys.NoChain list) = ⊥
 NamesNone job whys.ChainLooped = ⊥
+NamesNone job (whys.BesideElf option) = ⊥
+NamesNone job whys.ElfLooped = ⊥
+NamesNone job (whys.BesideSoft option) = ⊥
+NamesNone job whys.SoftLooped = ⊥
 NamesNone job whys.NoMemory = ⊥
 
 -- of words of which the first is the job, by the command that this names
@@ -106,6 +126,10 @@ UntakenBy command words (whys.NoNumber option word) = ⊥
 UntakenBy command words (whys.OutOfRange option word least most) = ⊥
 UntakenBy command words (whys.NoChain list) = ⊥
 UntakenBy command words whys.ChainLooped = ⊥
+UntakenBy command words (whys.BesideElf option) = ⊥
+UntakenBy command words whys.ElfLooped = ⊥
+UntakenBy command words (whys.BesideSoft option) = ⊥
+UntakenBy command words whys.SoftLooped = ⊥
 UntakenBy command words whys.NoMemory = Unit {0}
 
 -- what a command finds, unless it does not take the words

@@ -1,7 +1,7 @@
 -- The job that words write, or none: the first word names the program, and the rest are the options of its command.
 -- The words are this project's own (docs/FORMATS.md, "Words"); which words a command takes, and what it finds in them, is what the crate `clap` says.
 use Rattle.std.specs.Prelude.{◌≤◌, ◌^◌, ℕ}
-use Rattle.std.specs.Prelude.{Bool, true, false, List, [], ◌∷◌, codes, bytes_eq, Option, Some, None, option_map, if◌then◌else◌}
+use Rattle.std.specs.Prelude.{Bool, true, false, List, [], ◌∷◌, codes, bytes_eq, Option, Some, None, option_map, if◌then◌else◌, is_some}
 use Rattle.std.specs.Borrow.{Bor}
 use Rattle.clap.specs.Words.{App, Kinds, Row, fault_of, first_of, found_of, matches_of, rows_of}
 use Rattle.clap.specs.declared.parser.matches.ArgMatches.{ArgMatches}
@@ -10,7 +10,7 @@ use Rattle.rv_model.specs.declared.version.Version.TheVariants.{V013, V10}
 use Rattle.debug_model.specs.Loaded.{usual_points}
 use Rattle.debug_model.specs.Wire.{piece_most}
 use Rattle.chain_scan.specs.ChainPlan.{Plan}
-use Rattle.command_line.specs.Job.{Text, InputsValue, files, gen, JobValue, both, probe, chip, sniff}
+use Rattle.command_line.specs.Job.{Text, InputsValue, files, gen, JobValue, both, elf, soft, probe, probe_elf, probe_soft, chip, sniff}
 use Rattle.command_line.specs.Chains.{plan_of}
 use Rattle.command_line.specs.Numbers.{◌>>=◌, number_of, within}
 use Rattle.command_line.specs.Options.{both_command, probe_command, chip_command, sniff_command}
@@ -151,9 +151,71 @@ both_from said_inputs said_options said_piece said_way = do
   way ← said_way
   Some (both inputs options piece way)
 
-unfoldable pub both_in : List Row → Option JobValue
-both_in rows = both_from (inputs_in rows) (options_in rows) (ranged_in rows (codes "piece") piece_unsaid least_piece piece_most)
+-- `both` with an image or a number
+unfoldable pub image_in : List Row → Option JobValue
+image_in rows = both_from (inputs_in rows) (options_in rows) (ranged_in rows (codes "piece") piece_unsaid least_piece piece_most)
     (way_in rows)
+
+-- beside an ELF file stand no image, no number and no chain, and the stream goes straight to the chip
+abbrev pub stands_alone : (image number chain : Option Text) → (loopback : Bool) → Bool
+stands_alone None None None false = true
+stands_alone _ _ _ _ = false
+
+unfoldable pub is_elf_alone : List Row → Bool
+is_elf_alone rows =
+    stands_alone (value_in rows (codes "image")) (value_in rows (codes "gen")) (value_in rows (codes "chain")) (flag_in rows (codes "loopback"))
+
+abbrev pub elf_from : Option Text → Option Text → Option ChipOptions → Option ℕ → Option JobValue
+elf_from said_file said_script said_options said_piece = do
+  file ← said_file
+  script ← said_script
+  options ← said_options
+  piece ← said_piece
+  Some (elf file script options piece)
+
+-- `both` with an ELF file
+unfoldable pub elf_in : List Row → Option JobValue
+elf_in rows =
+    if is_elf_alone rows then elf_from (value_in rows (codes "elf")) (value_in rows (codes "script")) (options_in rows)
+    (ranged_in rows (codes "piece") piece_unsaid least_piece piece_most)
+    else None
+
+-- `--elf` decides which of the two it is
+abbrev pub plain_by : Option Text → List Row → Option JobValue
+plain_by None rows = image_in rows
+plain_by (Some file) rows = elf_in rows
+
+-- `both` without software breakpoints
+unfoldable pub plain_in : List Row → Option JobValue
+plain_in rows = plain_by (value_in rows (codes "elf")) rows
+
+-- beside software breakpoints stand no ELF file, no number and no chain, and the stream goes straight to the chip
+unfoldable pub is_soft_alone : List Row → Bool
+is_soft_alone rows =
+    stands_alone (value_in rows (codes "elf")) (value_in rows (codes "gen")) (value_in rows (codes "chain")) (flag_in rows (codes "loopback"))
+
+abbrev pub soft_from : Option Text → Option Text → Option ChipOptions → Option ℕ → Option JobValue
+soft_from said_image said_script said_options said_piece = do
+  image ← said_image
+  script ← said_script
+  options ← said_options
+  piece ← said_piece
+  Some (soft image script options piece)
+
+-- `both` with software breakpoints
+unfoldable pub soft_in : List Row → Option JobValue
+soft_in rows =
+    if is_soft_alone rows then soft_from (value_in rows (codes "image")) (value_in rows (codes "script")) (options_in rows)
+    (ranged_in rows (codes "piece") piece_unsaid least_piece piece_most)
+    else None
+
+-- `--soft` decides whether it has them
+abbrev pub both_by : (soft : Bool) → List Row → Option JobValue
+both_by false rows = plain_in rows
+both_by true rows = soft_in rows
+
+unfoldable pub both_in : List Row → Option JobValue
+both_in rows = both_by (flag_in rows (codes "soft")) rows
 
 abbrev pub probe_from : Option Text → Option Text → Option (Option Plan) → Option JobValue
 probe_from said_at said_script said_chain = do
@@ -162,8 +224,53 @@ probe_from said_at said_script said_chain = do
   chain ← said_chain
   Some (probe at script chain)
 
+-- `probe` with a script alone
+unfoldable pub probe_script_in : List Row → Option JobValue
+probe_script_in rows = probe_from (value_in rows (codes "at")) (value_in rows (codes "script")) (chain_in rows)
+
+abbrev pub probe_elf_from : Option Text → Option Text → Option Text → Option JobValue
+probe_elf_from said_at said_file said_script = do
+  at ← said_at
+  file ← said_file
+  script ← said_script
+  Some (probe_elf at file script)
+
+-- `probe` with an ELF file, which stands beside no chain
+unfoldable pub probe_elf_in : List Row → Option JobValue
+probe_elf_in rows =
+    if is_some (value_in rows (codes "chain")) then None
+    else probe_elf_from (value_in rows (codes "at")) (value_in rows (codes "elf")) (value_in rows (codes "script"))
+
+abbrev pub probe_plain_by : Option Text → List Row → Option JobValue
+probe_plain_by None rows = probe_script_in rows
+probe_plain_by (Some file) rows = probe_elf_in rows
+
+-- `probe` without software breakpoints
+unfoldable pub probe_plain_in : List Row → Option JobValue
+probe_plain_in rows = probe_plain_by (value_in rows (codes "elf")) rows
+
+-- beside them stand no ELF file and no chain
+unfoldable pub is_probe_soft_alone : List Row → Bool
+is_probe_soft_alone rows = stands_alone (value_in rows (codes "elf")) None (value_in rows (codes "chain")) false
+
+abbrev pub probe_soft_from : Option Text → Option Text → Option JobValue
+probe_soft_from said_at said_script = do
+  at ← said_at
+  script ← said_script
+  Some (probe_soft at script)
+
+-- `probe` with software breakpoints
+unfoldable pub probe_soft_in : List Row → Option JobValue
+probe_soft_in rows =
+    if is_probe_soft_alone rows then probe_soft_from (value_in rows (codes "at")) (value_in rows (codes "script"))
+    else None
+
+abbrev pub probe_by : (soft : Bool) → List Row → Option JobValue
+probe_by false rows = probe_plain_in rows
+probe_by true rows = probe_soft_in rows
+
 unfoldable pub probe_in : List Row → Option JobValue
-probe_in rows = probe_from (value_in rows (codes "at")) (value_in rows (codes "script")) (chain_in rows)
+probe_in rows = probe_by (flag_in rows (codes "soft")) rows
 
 abbrev pub chip_from : Option Text → Option Text → Option ChipOptions → Option (Option Plan) → Option JobValue
 chip_from said_at said_image said_options said_chain = do
@@ -225,6 +332,10 @@ pub record OptionsInRange (options : ChipOptions) : Type 0 where
 -- the numbers of a job that have a range are within it; of the others `load` judges
 abbrev pub HasRanges : JobValue → Type 0
 HasRanges (both inputs options piece way) = InRange least_piece piece_most piece × OptionsInRange options
+HasRanges (elf file script options piece) = InRange least_piece piece_most piece × OptionsInRange options
+HasRanges (soft image script options piece) = InRange least_piece piece_most piece × OptionsInRange options
 HasRanges (probe at script chain) = Unit {0}
+HasRanges (probe_elf at file script) = Unit {0}
+HasRanges (probe_soft at script) = Unit {0}
 HasRanges (chip at image options chain) = OptionsInRange options
 HasRanges (sniff stream answers waves) = Unit {0}

@@ -7,6 +7,28 @@ pub enum Job {
     /// Chip and probe in one process: the inputs, the chip's options, the most bytes that a piece of the stream has
     /// (from 1 to 256), and the way of the bytes to the chip.
     Both(Inputs, ChipOptions, u16, Way),
+    /// Chip and probe in one process: the probe loads an ELF file into the memory of a chip whose harts are halted, and then runs the script.
+    Elf {
+        /// The name of the ELF file.
+        file: String,
+        /// The name of the script's file.
+        script: String,
+        /// How the chip is made.
+        options: ChipOptions,
+        /// The most bytes that a piece of the stream has, from 1 to 256.
+        piece: u16,
+    },
+    /// Chip and probe in one process, over a script that may set software breakpoints.
+    Soft {
+        /// The name of the image's file.
+        image: String,
+        /// The name of the script's file.
+        script: String,
+        /// How the chip is made.
+        options: ChipOptions,
+        /// The most bytes that a piece of the stream has, from 1 to 256.
+        piece: u16,
+    },
     /// The probe alone.
     Probe {
         /// The address of the target.
@@ -15,6 +37,22 @@ pub enum Job {
         script: String,
         /// The devices beside the chip, where it is in a chain.
         chain: Option<ChainPlan>,
+    },
+    /// The probe alone, which loads an ELF file and then runs the script.
+    ProbeElf {
+        /// The address of the target.
+        at: String,
+        /// The name of the ELF file.
+        file: String,
+        /// The name of the script's file.
+        script: String,
+    },
+    /// The probe alone, over a script that may set software breakpoints.
+    ProbeSoft {
+        /// The address of the target.
+        at: String,
+        /// The name of the script's file.
+        script: String,
     },
     /// The chip alone.
     Chip {

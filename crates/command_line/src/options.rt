@@ -22,6 +22,8 @@ pub(crate) const AT: &str = "at";
 pub(crate) const BUSY: &str = "busy";
 /// The devices of the chip's chain.
 pub(crate) const CHAIN: &str = "chain";
+/// The ELF file that the probe loads.
+pub(crate) const ELF: &str = "elf";
 /// The most points that a rise of TCK may find.
 pub(crate) const EVENTS: &str = "events";
 /// The number from which image and script are made.
@@ -42,6 +44,8 @@ pub(crate) const RAM: &str = "ram";
 pub(crate) const SCRIPT: &str = "script";
 /// The number from which the schedule is made.
 pub(crate) const SEED: &str = "seed";
+/// Whether the script may set software breakpoints.
+pub(crate) const SOFT: &str = "soft";
 /// The file of a recorded stream.
 pub(crate) const STREAM: &str = "stream";
 /// Whether the chip follows release 0.13.
@@ -49,13 +53,15 @@ pub(crate) const V013: &str = "v013";
 /// Whether a recording is drawn as a Value Change Dump.
 pub(crate) const VCD: &str = "vcd";
 
-static BOTH_OPTIONS: [&str; 10] = [
-    IMAGE, SCRIPT, GEN, HARTS, RAM, SEED, BUSY, EVENTS, PIECE, CHAIN,
+static BOTH_OPTIONS: [&str; 11] = [
+    IMAGE, SCRIPT, GEN, ELF, HARTS, RAM, SEED, BUSY, EVENTS, PIECE, CHAIN,
 ];
 
-static BOTH_FLAGS: [&str; 3] = [HALTED, LOOPBACK, V013];
+static BOTH_FLAGS: [&str; 4] = [HALTED, LOOPBACK, SOFT, V013];
 
-static PROBE_OPTIONS: [&str; 3] = [AT, SCRIPT, CHAIN];
+static PROBE_OPTIONS: [&str; 4] = [AT, SCRIPT, ELF, CHAIN];
+
+static PROBE_FLAGS: [&str; 1] = [SOFT];
 
 static CHIP_OPTIONS: [&str; 8] = [AT, IMAGE, HARTS, RAM, SEED, BUSY, EVENTS, CHAIN];
 
@@ -76,7 +82,7 @@ pub(crate) fn both_command<'a>(alloc: Global) -> Result<Command<'a>, AllocError>
 pub(crate) fn probe_command<'a>(alloc: Global) -> Result<Command<'a>, AllocError>
     ensures { IfOk result (λ command. app_of command ≡ probe_command) }
 {
-    command(alloc, "probe", &PROBE_OPTIONS, &[])
+    command(alloc, "probe", &PROBE_OPTIONS, &PROBE_FLAGS)
 }
 
 /// The command of `chip`.

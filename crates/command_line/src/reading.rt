@@ -3,16 +3,19 @@ ghost use Rattle.clap.specs.Words.{app_of, is_simple_and_free, kind_of};
 ghost use Rattle.clap.specs.declared.error.kind.ErrorKind.TheVariants.{OutOfMemory};
 ghost use Rattle.command_line.specs.Job.{Gives, job_value};
 ghost use Rattle.command_line.specs.Options.{both_command, chip_command, probe_command, sniff_command};
-ghost use Rattle.command_line.specs.WrittenJob.{HasRanges, both_in, both_of, chip_in, chip_of, job_by, job_of};
-ghost use Rattle.command_line.specs.WrittenJob.{probe_in, probe_of, rows_found, rows_in, sniff_in, sniff_of};
+ghost use Rattle.command_line.specs.WrittenJob.{HasRanges, both_in, both_of, chip_in, chip_of, elf_in, image_in, job_by, job_of, plain_in};
+ghost use Rattle.command_line.specs.WrittenJob.{probe_elf_in, probe_in, probe_of, probe_plain_in, probe_script_in, probe_soft_in, rows_found, rows_in, sniff_in, sniff_of, soft_in};
 
 use crate::fault::WordsFault;
 use crate::job::Job;
 use crate::options::{
-    ANSWERS, AT, IMAGE, PIECE, SCRIPT, STREAM, VCD, both_command, chip_command, probe_command,
-    sniff_command,
+    ANSWERS, AT, CHAIN, ELF, IMAGE, PIECE, SCRIPT, SOFT, STREAM, VCD, both_command, chip_command,
+    probe_command, sniff_command,
 };
-use crate::values::{chain, chip_options, flag, inputs, ranged, required, way};
+use crate::values::{
+    chain, chip_options, flag, inputs, is_elf_alone, is_probe_soft_alone, is_soft_alone, ranged,
+    required, value, way,
+};
 use clap::error::ErrorKind;
 use clap::{ArgMatches, Command, Error};
 use debug_model::PIECE_MOST;
@@ -99,6 +102,65 @@ fn read_sniff(alloc: Global, words: &[String]) -> Result<Job, WordsFault>
 fn both_in(alloc: Global, matches: &ArgMatches) -> Result<Job, WordsFault>
     ensures { Gives job_value result (both_in (rows_found matches.now)) }
 {
+    if flag(matches, SOFT) {
+        soft_in(alloc, matches)
+    } else {
+        plain_in(alloc, matches)
+    }
+}
+
+/// The same, with software breakpoints.
+fn soft_in(alloc: Global, matches: &ArgMatches) -> Result<Job, WordsFault>
+    ensures { Gives job_value result (soft_in (rows_found matches.now)) }
+{
+    if !is_soft_alone(matches) {
+        return Err(WordsFault::Refused);
+    }
+    let image = required(alloc, matches, IMAGE)?;
+    let script = required(alloc, matches, SCRIPT)?;
+    let options = chip_options(matches)?;
+    let piece = ranged(matches, PIECE, PIECE_UNSAID, PIECE_LEAST, PIECE_MOST as u64)?;
+    Ok(Job::Soft {
+        image,
+        script,
+        options,
+        piece: piece as u16,
+    })
+}
+
+/// The same, without them.
+fn plain_in(alloc: Global, matches: &ArgMatches) -> Result<Job, WordsFault>
+    ensures { Gives job_value result (plain_in (rows_found matches.now)) }
+{
+    match value(matches, ELF) {
+        None => image_in(alloc, matches),
+        Some(_) => elf_in(alloc, matches),
+    }
+}
+
+/// The same, where the probe loads an ELF file.
+fn elf_in(alloc: Global, matches: &ArgMatches) -> Result<Job, WordsFault>
+    ensures { Gives job_value result (elf_in (rows_found matches.now)) }
+{
+    if !is_elf_alone(matches) {
+        return Err(WordsFault::Refused);
+    }
+    let file = required(alloc, matches, ELF)?;
+    let script = required(alloc, matches, SCRIPT)?;
+    let options = chip_options(matches)?;
+    let piece = ranged(matches, PIECE, PIECE_UNSAID, PIECE_LEAST, PIECE_MOST as u64)?;
+    Ok(Job::Elf {
+        file,
+        script,
+        options,
+        piece: piece as u16,
+    })
+}
+
+/// The same, with an image or a number.
+fn image_in(alloc: Global, matches: &ArgMatches) -> Result<Job, WordsFault>
+    ensures { Gives job_value result (image_in (rows_found matches.now)) }
+{
     let inputs = inputs(alloc, matches)?;
     let options = chip_options(matches)?;
     let piece = ranged(matches, PIECE, PIECE_UNSAID, PIECE_LEAST, PIECE_MOST as u64)?;
@@ -109,6 +171,52 @@ fn both_in(alloc: Global, matches: &ArgMatches) -> Result<Job, WordsFault>
 /// The job of the probe alone.
 fn probe_in(alloc: Global, matches: &ArgMatches) -> Result<Job, WordsFault>
     ensures { Gives job_value result (probe_in (rows_found matches.now)) }
+{
+    if flag(matches, SOFT) {
+        probe_soft_in(alloc, matches)
+    } else {
+        probe_plain_in(alloc, matches)
+    }
+}
+
+/// The same, with software breakpoints.
+fn probe_soft_in(alloc: Global, matches: &ArgMatches) -> Result<Job, WordsFault>
+    ensures { Gives job_value result (probe_soft_in (rows_found matches.now)) }
+{
+    if !is_probe_soft_alone(matches) {
+        return Err(WordsFault::Refused);
+    }
+    let at = required(alloc, matches, AT)?;
+    let script = required(alloc, matches, SCRIPT)?;
+    Ok(Job::ProbeSoft { at, script })
+}
+
+/// The same, without them.
+fn probe_plain_in(alloc: Global, matches: &ArgMatches) -> Result<Job, WordsFault>
+    ensures { Gives job_value result (probe_plain_in (rows_found matches.now)) }
+{
+    match value(matches, ELF) {
+        None => probe_script_in(alloc, matches),
+        Some(_) => probe_elf_in(alloc, matches),
+    }
+}
+
+/// The same, where it loads an ELF file. A chain may not stand beside that.
+fn probe_elf_in(alloc: Global, matches: &ArgMatches) -> Result<Job, WordsFault>
+    ensures { Gives job_value result (probe_elf_in (rows_found matches.now)) }
+{
+    if value(matches, CHAIN).is_some() {
+        return Err(WordsFault::Refused);
+    }
+    let at = required(alloc, matches, AT)?;
+    let file = required(alloc, matches, ELF)?;
+    let script = required(alloc, matches, SCRIPT)?;
+    Ok(Job::ProbeElf { at, file, script })
+}
+
+/// The same, with a script alone.
+fn probe_script_in(alloc: Global, matches: &ArgMatches) -> Result<Job, WordsFault>
+    ensures { Gives job_value result (probe_script_in (rows_found matches.now)) }
 {
     let at = required(alloc, matches, AT)?;
     let script = required(alloc, matches, SCRIPT)?;

@@ -1,14 +1,15 @@
 ghost use Rattle.std.specs.Prelude.{◌≡◌, ◌≤◌, IfOk, string_bytes};
 ghost use Rattle.command_line.specs.Job.{Gives, inputs_value};
 ghost use Rattle.command_line.specs.Numbers.{number_of};
-ghost use Rattle.command_line.specs.WrittenJob.{chain_in, flag_in, inputs_from, inputs_in, number_in, number_or, options_in, ranged_in};
-ghost use Rattle.command_line.specs.WrittenJob.{rows_found, text_of, value_in, version_by, way_in};
+ghost use Rattle.command_line.specs.WrittenJob.{chain_in, flag_in, inputs_from, inputs_in, is_elf_alone, number_in, number_or, options_in};
+ghost use Rattle.command_line.specs.WrittenJob.{is_probe_soft_alone, is_soft_alone};
+ghost use Rattle.command_line.specs.WrittenJob.{ranged_in, rows_found, stands_alone, text_of, value_in, version_by, way_in};
 
 use crate::chains::plan_of;
 use crate::fault::WordsFault;
 use crate::job::{ChipOptions, Inputs, Way};
 use crate::options::{
-    BUSY, CHAIN, EVENTS, GEN, HALTED, HARTS, IMAGE, LOOPBACK, RAM, SCRIPT, SEED, V013,
+    BUSY, CHAIN, ELF, EVENTS, GEN, HALTED, HARTS, IMAGE, LOOPBACK, RAM, SCRIPT, SEED, V013,
 };
 use chain_scan::ChainPlan;
 use clap::ArgMatches;
@@ -162,6 +163,52 @@ fn inputs_from(
             Ok(Inputs::Gen(number))
         }
         _ => Err(WordsFault::Refused),
+    }
+}
+
+/// Whether nothing stands beside an ELF file that may not: other inputs, a chain, or `--loopback`.
+pub(crate) fn is_elf_alone(matches: &ArgMatches) -> bool
+    ensures { result ≡ is_elf_alone (rows_found matches.now) }
+{
+    stands_alone(
+        value(matches, IMAGE),
+        value(matches, GEN),
+        value(matches, CHAIN),
+        flag(matches, LOOPBACK),
+    )
+}
+
+/// Whether nothing stands beside software breakpoints that may not: an ELF file, a number, a chain, or `--loopback`.
+pub(crate) fn is_soft_alone(matches: &ArgMatches) -> bool
+    ensures { result ≡ is_soft_alone (rows_found matches.now) }
+{
+    stands_alone(
+        value(matches, ELF),
+        value(matches, GEN),
+        value(matches, CHAIN),
+        flag(matches, LOOPBACK),
+    )
+}
+
+/// Whether no ELF file and no chain stands beside software breakpoints of the probe alone.
+pub(crate) fn is_probe_soft_alone(matches: &ArgMatches) -> bool
+    ensures { result ≡ is_probe_soft_alone (rows_found matches.now) }
+{
+    stands_alone(value(matches, ELF), None, value(matches, CHAIN), false)
+}
+
+/// No other inputs, no chain, and no connection of the machine to itself.
+fn stands_alone(
+    image: Option<&str>,
+    number: Option<&str>,
+    chain: Option<&str>,
+    looped: bool,
+) -> bool
+    ensures { result ≡ stands_alone (text_of image.entry) (text_of number.entry) (text_of chain.entry) looped }
+{
+    match (image, number, chain, looped) {
+        (None, None, None, false) => true,
+        _ => false,
     }
 }
 

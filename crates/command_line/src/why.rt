@@ -1,16 +1,17 @@
-ghost use Rattle.std.specs.Prelude.{◌≡◌, ◌≤◌, IfErr, IsSome, None, OnOk, codes, map, string_bytes, true};
+ghost use Rattle.std.specs.Prelude.{◌≡◌, ◌≤◌, IfErr, IsSome, None, OnOk, codes, false, map, string_bytes, true};
 ghost use Rattle.clap.specs.Words.{app_of, is_simple_and_free};
-ghost use Rattle.command_line.specs.Why.{HasNumber, Names, NamesAt, NamesBy, NamesIn, UnlessTaken, command_at, least_of, most_of};
+ghost use Rattle.command_line.specs.Why.{HasNumber, Names, NamesAt, NamesBy, NamesIn, UnlessTaken, bars_elf, bars_soft, command_at, least_of, most_of};
 ghost use Rattle.command_line.specs.Options.{both_command, chip_command, probe_command, sniff_command};
-ghost use Rattle.command_line.specs.WrittenJob.{both_in, both_of, chain_in, chip_in, chip_of, inputs_in, job_by, job_of, options_in};
-ghost use Rattle.command_line.specs.WrittenJob.{probe_in, probe_of, rows_found, rows_in, sniff_in, sniff_of, value_in, way_in};
+ghost use Rattle.command_line.specs.WrittenJob.{both_in, both_of, chain_in, chip_in, chip_of, elf_in, flag_in, image_in, inputs_in, job_by, job_of, options_in, plain_in};
+ghost use Rattle.command_line.specs.WrittenJob.{probe_elf_in, probe_in, probe_of, probe_plain_in, probe_script_in, probe_soft_in, rows_found, rows_in, sniff_in};
+ghost use Rattle.command_line.specs.WrittenJob.{sniff_of, soft_in, value_in, way_in};
 ghost use Rattle.command_line.specs.declared.why.Refused.TheVariants.{NoMemory};
 
 use crate::chains::plan_of;
 use crate::fault::WordsFault;
 use crate::options::{
-    ANSWERS, AT, BUSY, CHAIN, EVENTS, GEN, HARTS, IMAGE, LOOPBACK, PIECE, RAM, SCRIPT, SEED,
-    STREAM, both_command, chip_command, probe_command, sniff_command,
+    ANSWERS, AT, BUSY, CHAIN, ELF, EVENTS, GEN, HARTS, IMAGE, LOOPBACK, PIECE, RAM, SCRIPT, SEED,
+    SOFT, STREAM, both_command, chip_command, probe_command, sniff_command,
 };
 use crate::reading::{PIECE_LEAST, fault_by};
 use crate::values::{BUSY_LEAST, BUSY_MOST, EVENTS_LEAST, flag, number_of, value};
@@ -46,6 +47,14 @@ pub enum Refused<'a> {
     NoChain(&'a str),
     /// `--chain` stands beside `--loopback`.
     ChainLooped,
+    /// An option that stands beside `--elf`.
+    BesideElf(&'static str),
+    /// `--elf` stands beside `--loopback`.
+    ElfLooped,
+    /// An option that stands beside `--soft`.
+    BesideSoft(&'static str),
+    /// `--soft` stands beside `--loopback`.
+    SoftLooped,
     /// No memory was left to tell.
     NoMemory,
 }
@@ -96,6 +105,10 @@ impl Display for Refused<'_> {
                  from 2 to 8, of 1 to 7 others"
             ),
             Refused::ChainLooped => write!(f, "--chain may not stand beside --loopback"),
+            Refused::BesideElf(option) => write!(f, "--{option} may not stand beside --elf"),
+            Refused::ElfLooped => write!(f, "--elf may not stand beside --loopback"),
+            Refused::BesideSoft(option) => write!(f, "--{option} may not stand beside --soft"),
+            Refused::SoftLooped => write!(f, "--soft may not stand beside --loopback"),
             Refused::NoMemory => write!(f, "no memory was left to tell which"),
         }
     }
@@ -200,10 +213,73 @@ fn matched<'a>(
 }
 
 /// Checks the options of `both`, in the order in which they are read.
-#[tactic(auto, using(crate::proofs::Writing::both_writes))]
+#[tactic(auto, using(crate::proofs::SoftWriting::both_plain, crate::proofs::SoftWriting::both_with_soft))]
 fn check_both<'a>(matches: &ArgMatches<'a>) -> Result<(), Refused<'a>>
     ensures named { IfErr result (NamesIn (rows_found matches.now)) }
     ensures writes { OnOk result (IsSome (both_in (rows_found matches.now))) }
+{
+    if flag(matches, SOFT) {
+        check_soft(matches)?;
+        return Ok(());
+    }
+    check_plain(matches)?;
+    Ok(())
+}
+
+/// The same of those with software breakpoints.
+#[tactic(auto, using(crate::proofs::SoftWriting::soft_writes))]
+fn check_soft<'a>(matches: &ArgMatches<'a>) -> Result<(), Refused<'a>>
+    requires soft { flag_in (rows_found matches.now) (codes "soft") ≡ true }
+    ensures named { IfErr result (NamesIn (rows_found matches.now)) }
+    ensures writes { OnOk result (IsSome (soft_in (rows_found matches.now))) }
+{
+    check_beside_soft(matches, ELF)?;
+    check_beside_soft(matches, GEN)?;
+    check_beside_soft(matches, CHAIN)?;
+    check_soft_way(matches)?;
+    check_given(matches, IMAGE)?;
+    check_given(matches, SCRIPT)?;
+    check_chip_options(matches)?;
+    check_number(matches, PIECE, PIECE_LEAST, PIECE_MOST as u64)?;
+    Ok(())
+}
+
+/// The same of those without them.
+#[tactic(auto, using(crate::proofs::Writing::both_with_image, crate::proofs::Writing::both_with_elf))]
+fn check_plain<'a>(matches: &ArgMatches<'a>) -> Result<(), Refused<'a>>
+    ensures named { IfErr result (NamesIn (rows_found matches.now)) }
+    ensures writes { OnOk result (IsSome (plain_in (rows_found matches.now))) }
+{
+    if value(matches, ELF).is_none() {
+        check_image(matches)?;
+        return Ok(());
+    }
+    check_elf(matches)?;
+    Ok(())
+}
+
+/// The same of those with an ELF file.
+#[tactic(auto, using(crate::proofs::Writing::elf_writes))]
+fn check_elf<'a>(matches: &ArgMatches<'a>) -> Result<(), Refused<'a>>
+    ensures named { IfErr result (NamesIn (rows_found matches.now)) }
+    ensures writes { OnOk result (IsSome (elf_in (rows_found matches.now))) }
+{
+    check_given(matches, ELF)?;
+    check_beside_elf(matches, IMAGE)?;
+    check_beside_elf(matches, GEN)?;
+    check_beside_elf(matches, CHAIN)?;
+    check_elf_way(matches)?;
+    check_given(matches, SCRIPT)?;
+    check_chip_options(matches)?;
+    check_number(matches, PIECE, PIECE_LEAST, PIECE_MOST as u64)?;
+    Ok(())
+}
+
+/// The same of those with an image or a number.
+#[tactic(auto, using(crate::proofs::Writing::image_writes))]
+fn check_image<'a>(matches: &ArgMatches<'a>) -> Result<(), Refused<'a>>
+    ensures named { IfErr result (NamesIn (rows_found matches.now)) }
+    ensures writes { OnOk result (IsSome (image_in (rows_found matches.now))) }
 {
     check_inputs(matches)?;
     check_chip_options(matches)?;
@@ -213,10 +289,65 @@ fn check_both<'a>(matches: &ArgMatches<'a>) -> Result<(), Refused<'a>>
 }
 
 /// Checks the options of `probe`.
-#[tactic(auto, using(crate::proofs::Writing::probe_writes))]
+#[tactic(auto, using(crate::proofs::SoftWriting::probe_plain, crate::proofs::SoftWriting::probe_with_soft))]
 fn check_probe<'a>(matches: &ArgMatches<'a>) -> Result<(), Refused<'a>>
     ensures named { IfErr result (NamesIn (rows_found matches.now)) }
     ensures writes { OnOk result (IsSome (probe_in (rows_found matches.now))) }
+{
+    if flag(matches, SOFT) {
+        check_probe_soft(matches)?;
+        return Ok(());
+    }
+    check_probe_plain(matches)?;
+    Ok(())
+}
+
+/// The same of those with software breakpoints.
+#[tactic(auto, using(crate::proofs::SoftWriting::probe_soft_writes))]
+fn check_probe_soft<'a>(matches: &ArgMatches<'a>) -> Result<(), Refused<'a>>
+    requires soft { flag_in (rows_found matches.now) (codes "soft") ≡ true }
+    ensures named { IfErr result (NamesIn (rows_found matches.now)) }
+    ensures writes { OnOk result (IsSome (probe_soft_in (rows_found matches.now))) }
+{
+    check_beside_soft(matches, ELF)?;
+    check_beside_soft(matches, CHAIN)?;
+    check_given(matches, AT)?;
+    check_given(matches, SCRIPT)?;
+    Ok(())
+}
+
+/// The same of those without them.
+#[tactic(auto, using(crate::proofs::Writing::probe_with_script, crate::proofs::Writing::probe_with_elf))]
+fn check_probe_plain<'a>(matches: &ArgMatches<'a>) -> Result<(), Refused<'a>>
+    ensures named { IfErr result (NamesIn (rows_found matches.now)) }
+    ensures writes { OnOk result (IsSome (probe_plain_in (rows_found matches.now))) }
+{
+    if value(matches, ELF).is_none() {
+        check_probe_script(matches)?;
+        return Ok(());
+    }
+    check_probe_elf(matches)?;
+    Ok(())
+}
+
+/// The same of those with an ELF file.
+#[tactic(auto, using(crate::proofs::Writing::probe_elf_writes))]
+fn check_probe_elf<'a>(matches: &ArgMatches<'a>) -> Result<(), Refused<'a>>
+    ensures named { IfErr result (NamesIn (rows_found matches.now)) }
+    ensures writes { OnOk result (IsSome (probe_elf_in (rows_found matches.now))) }
+{
+    check_given(matches, ELF)?;
+    check_beside_elf(matches, CHAIN)?;
+    check_given(matches, AT)?;
+    check_given(matches, SCRIPT)?;
+    Ok(())
+}
+
+/// The same of those with a script alone.
+#[tactic(auto, using(crate::proofs::Writing::probe_writes))]
+fn check_probe_script<'a>(matches: &ArgMatches<'a>) -> Result<(), Refused<'a>>
+    ensures named { IfErr result (NamesIn (rows_found matches.now)) }
+    ensures writes { OnOk result (IsSome (probe_script_in (rows_found matches.now))) }
 {
     check_given(matches, AT)?;
     check_given(matches, SCRIPT)?;
@@ -327,6 +458,52 @@ fn check_beside<'a>(matches: &ArgMatches<'a>, option: &'static str) -> Result<()
         (Some(_), Some(_)) => Err(Refused::BesideGen(option)),
         _ => Ok(()),
     }
+}
+
+/// An option that may not be given beside `--elf`.
+fn check_beside_elf<'a>(matches: &ArgMatches<'a>, option: &'static str) -> Result<(), Refused<'a>>
+    requires barred { bars_elf option.now ≡ true }
+    ensures named { IfErr result (NamesIn (rows_found matches.now)) }
+    ensures alone { OnOk result (IsSome (value_in (rows_found matches.now) (codes "elf")) → value_in (rows_found matches.now) option.now ≡ None) }
+{
+    match (value(matches, option), value(matches, ELF)) {
+        (Some(_), Some(_)) => Err(Refused::BesideElf(option)),
+        _ => Ok(()),
+    }
+}
+
+/// `--loopback`, which may not be given beside `--elf`.
+fn check_elf_way<'a>(matches: &ArgMatches<'a>) -> Result<(), Refused<'a>>
+    ensures named { IfErr result (NamesIn (rows_found matches.now)) }
+    ensures straight { OnOk result (IsSome (value_in (rows_found matches.now) (codes "elf")) → flag_in (rows_found matches.now) (codes "loopback") ≡ false) }
+{
+    match (value(matches, ELF), flag(matches, LOOPBACK)) {
+        (Some(_), true) => Err(Refused::ElfLooped),
+        _ => Ok(()),
+    }
+}
+
+/// An option that may not be given beside `--soft`.
+fn check_beside_soft<'a>(matches: &ArgMatches<'a>, option: &'static str) -> Result<(), Refused<'a>>
+    requires barred { bars_soft option.now ≡ true }
+    ensures named { IfErr result (NamesIn (rows_found matches.now)) }
+    ensures alone { OnOk result (flag_in (rows_found matches.now) (codes "soft") ≡ true → value_in (rows_found matches.now) option.now ≡ None) }
+{
+    match (value(matches, option), flag(matches, SOFT)) {
+        (Some(_), true) => Err(Refused::BesideSoft(option)),
+        _ => Ok(()),
+    }
+}
+
+/// `--loopback`, which may not be given beside `--soft`.
+fn check_soft_way<'a>(matches: &ArgMatches<'a>) -> Result<(), Refused<'a>>
+    ensures named { IfErr result (NamesIn (rows_found matches.now)) }
+    ensures straight { OnOk result (flag_in (rows_found matches.now) (codes "soft") ≡ true → flag_in (rows_found matches.now) (codes "loopback") ≡ false) }
+{
+    if flag(matches, SOFT) && flag(matches, LOOPBACK) {
+        return Err(Refused::SoftLooped);
+    }
+    Ok(())
 }
 
 /// The number of an option, where it is given.

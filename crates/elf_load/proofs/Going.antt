@@ -114,7 +114,7 @@ going_on all rest e old mid new going stored made ready later fixed stands = rec
   done = going.done ++ e ∷ [];
   parts = append_assoc going.done (e ∷ []) rest ∙ going.parts;
   stored = stored_next going.done e old.far mid.far new.far going.stored stored;
-  made = made_further going.done e (told mid) (told new) going.made made;
+  made = made_further going.done e (told mid) (told new) going.made made stored;
   ready = ready;
   callable = record { alive = stands.alive; link = stands.link };
   kept = kept_behind going.done e old new stands;
@@ -164,9 +164,12 @@ failed_left all rest e old mid new (access_fault.Run why) g f = f
 failed_left all rest e old mid new (access_fault.Odd shown) g f = untold g.done old.far mid.far g.stored f
 
 pub failed_made : (all rest : List Element) (e : Element) (old mid new : DmiSeen) (why : AccessFault) → Going all (e ∷ rest) old mid
+    → mid.fault_count ≤ new.fault_count
     → BusStoreFailed e.size e.address e.value mid.fault_count new.fault_count (told mid) (told new) why
+    → AccessLeft (BusStoreRefused e.size e.address) e.address mid.far new.far why
+    → IfCut (Leaves (BusLeftOff (StoreLeaves e.size e.address e.value)) mid.far new.far) why
     → MadeUpTo all old.fault_count new.fault_count (told old) (told new) why
-failed_made all rest e old mid new why g f = record {
+failed_made all rest e old mid new why g later f left cut = record {
   done = g.done;
   next = e;
   within = next_within all rest e old mid g;
@@ -174,7 +177,11 @@ failed_made all rest e old mid new why g f = record {
   made = g.made;
   mid_count = mid.fault_count;
   later = g.later;
+  later_still = later;
+  ready = g.ready;
   failed = f;
+  left = left;
+  cut = cut;
 }
 
 if_cut : (P Q : Type 0) (why : AccessFault) → (P → Q) → IfCut P why → IfCut Q why

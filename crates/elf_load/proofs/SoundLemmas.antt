@@ -119,11 +119,15 @@ memory_bound file (s ∷ segments) none =
     let size : memory_size (s ∷ segments) ≡ s.in_memory + memory_size segments = sum_by-cons (λ (t : Segment). t.in_memory) s segments in
     omega (arith, here, behind, size, length-flat_map-cons file s (s ∷ segments) segments refl)
 
-pub memory_fits : (file : List ℕ) (elf : Elf) (segments : List Segment) → ReadsAs file elf → segments ≡ elf.segments.items → memory_size segments < 2 ^ 64
-memory_fits file elf segments read same =
+pub memory_most : (file : List ℕ) (elf : Elf) (segments : List Segment) → ReadsAs file elf → segments ≡ elf.segments.items
+    → memory_size segments ≤ 8 * elements_most
+memory_most file elf segments read same =
     let is : segments ≡ segments_of file = same ∙ read.segments_are in
     let bound = memory_bound file (segments_of file) (no_bad_segment file read.sound) in
     omega (arith, ap memory_size is, bound, few_elements file read.sound)
+
+pub memory_fits : (file : List ℕ) (elf : Elf) (segments : List Segment) → ReadsAs file elf → segments ≡ elf.segments.items → memory_size segments < 2 ^ 64
+memory_fits file elf segments read same = omega (arith, memory_most file elf segments read same)
 
 one_of : (segments : List Segment) (i : ℕ) (d : Segment) → i < length segments → (get_or segments i d).in_memory ≤ memory_size segments
 one_of [] i d inside = absurd (omega arith)

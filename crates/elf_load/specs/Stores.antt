@@ -7,14 +7,14 @@ use Rattle.debug_model.specs.Chip.{Chip}
 use Rattle.debug_model.specs.Kept.{CanCall, DmiSeen, Stands, StandsUnless}
 use Rattle.debug_model.specs.Module.{Site}
 use Rattle.debug_model.specs.Scan.{WhereTold}
-use Rattle.debug_model.specs.Told.{Far, site_of}
+use Rattle.debug_model.specs.Told.{Far, IsReady, site_of}
 use Rattle.abstract_debugger.specs.Turns.{after_turns}
 use Rattle.probe_run.specs.Acts.{Tells}
 use Rattle.probe_access.specs.declared.fault.AccessFault.{AccessFault}
 use Rattle.probe_access.specs.declared.fault.AccessFault.TheVariants as fault
-use Rattle.probe_access.specs.Accesses.{OneBusAccess, unchanged}
+use Rattle.probe_access.specs.Accesses.{AccessLeft, BusStoreRefused, BusStoredAt, OneBusAccess, unchanged}
 use Rattle.probe_access.specs.BusRuns.{BusStoreFailed, BusStored}
-use Rattle.probe_access.specs.Cuts.{BusLeftOff, StoreLeaves}
+use Rattle.probe_access.specs.Cuts.{BusLeftOff, IfCut, Leaves, StoreLeaves}
 use Rattle.probe_access.specs.Faults.{access_why}
 use Rattle.probe_access.specs.Registers.{site_before}
 use Rattle.elf_load.specs.declared.element.Element.{Element}
@@ -88,13 +88,13 @@ pub record StoresCut (es : List Element) (s t : Site) : Type 0 where
 
 -- ---- the calls on the link
 
--- each element's store was made, in order
+-- each element's store was made, in order, and where the chip is told that is what it did there
 pub data MadeAll (old : Tells) : List Element → Tells → Type 0 where
   nothing : MadeAll old [] old
   further : (es : List Element) (e : Element) (mid new : Tells) → MadeAll old es mid → BusStored e.size e.address e.value mid new
-      → MadeAll old (es ++ e ∷ []) new
+      → WhereTold (BusStoredAt e.size e.address e.value) mid.far new.far → MadeAll old (es ++ e ∷ []) new
 
--- those in front were made, and the next failed
+-- those in front were made, and the next failed, which left the chip so where it is told
 pub record MadeUpTo (es : List Element) (old_count new_count : ℕ) (old new : Tells) (e : AccessFault) : Type 0 where
   pub done : List Element
   pub next : Element
@@ -103,7 +103,11 @@ pub record MadeUpTo (es : List Element) (old_count new_count : ℕ) (old new : T
   pub made : MadeAll old done mid
   pub mid_count : ℕ
   pub later : old_count ≤ mid_count
+  pub later_still : mid_count ≤ new_count
+  pub ready : IsReady mid.far
   pub failed : BusStoreFailed next.size next.address next.value mid_count new_count mid new e
+  pub left : AccessLeft (BusStoreRefused next.size next.address) next.address mid.far new.far e
+  pub cut : IfCut (Leaves (BusLeftOff (StoreLeaves next.size next.address next.value)) mid.far new.far) e
 
 -- ---- what is kept
 

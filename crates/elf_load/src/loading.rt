@@ -1,12 +1,12 @@
 //! Storing a file's elements over a link.
 
-ghost use Rattle.std.specs.Prelude.{◌≡◌, ◌<◌, ◌^◌, IfErr, IfOk, OnOk};
+ghost use Rattle.std.specs.Prelude.{◌≡◌, ◌<◌, ◌≤◌, ◌*◌, ◌^◌, IfErr, IfOk, OnOk};
 ghost use Rattle.debug_model.specs.Told.{IsReady};
 ghost use Rattle.debug_model.specs.Kept.{CanCall};
 ghost use Rattle.probe_access.specs.Accesses.{IfMemory};
 ghost use Rattle.probe_access.specs.Cuts.{IfCut, Leaves};
 ghost use Rattle.probe_run.specs.Told.{Fails, OnChip, told};
-ghost use Rattle.elf_load.specs.Elf.{ReadsAs, elements, memory_size};
+ghost use Rattle.elf_load.specs.Elf.{ReadsAs, elements, elements_most, memory_size};
 ghost use Rattle.elf_load.specs.Stores.{MadeAll, MadeUpTo, StoredAt, StoresCut, StoresKeep, StoresLeft};
 
 use crate::element::element_at;
@@ -23,13 +23,14 @@ fn bytes_in_memory(segments: &[Segment]) -> u64
 }
 
 /// Stores the segments of a file that was read, over any link to a chip, by the system bus: one access for each element, in order, up to and with the first
-/// that lies outside memory. Answers how many bytes that is. Behind `Memory` of an element those in front of it are stored
+/// that lies outside memory. Answers how many bytes that is: at most 131,072. Behind `Memory` of an element those in front of it are stored
 /// (System V ABI, "Program Header"; RISC-V Debug Specification 1.0, "System Bus Access").
 pub fn load_elf<D: Dmi>(link: &mut D, elf: &Elf, file: &[u8]) -> Result<u64, AccessFault>
     requires callable { CanCall (D.seen link.old) }
     requires ready { IsReady (D.seen link.old).far }
     requires read { ReadsAs file.now elf.now }
     ensures size { IfOk result (λ size. size ≡ memory_size elf.now.segments.items) }
+    ensures most { IfOk result (λ size. size ≤ 8 * elements_most) }
     ensures stored { OnOk result (OnChip (StoredAt (elements file.now)) (D.seen link.old) (D.seen link.new)) }
     ensures made { OnOk result (MadeAll (told (D.seen link.old)) (elements file.now) (told (D.seen link.new))) }
     ensures left { IfErr result (StoresLeft (elements file.now) (D.seen link.old).far (D.seen link.new).far) }

@@ -1,12 +1,13 @@
-//! What the program says on standard error of words, a script or an image that it has refused. It is judged once more by the calls that refused it.
+//! What the program says on standard error of words, a script, an image or an ELF file that it has refused. It is judged once more by the calls that refused it.
 
 use chip_core::{Bench, LoadFault};
 use command_line::{ChipOptions, Job, read_words, why_refused};
 use debug_model::{ScriptError, ScriptFault};
+use elf_load::{ElfFault, read_elf};
 use hart_debug::Start;
 use jt_base::FileFault;
 use jtag_run::Status;
-use script_lang::parse;
+use script_lang::{parse, parse_soft};
 use std::alloc::Global;
 use std::{io, str};
 use sys_events::SeedSchedule;
@@ -27,10 +28,28 @@ fn line_of(script: &[u8], line: u32) -> Option<&str> {
     str::from_utf8(line).ok()
 }
 
+/// Whether the script of these words may set software breakpoints.
+fn sets_soft(alloc: Global, words: &[String]) -> bool {
+    matches!(
+        read_words(alloc, words),
+        Ok(Job::Soft { .. } | Job::ProbeSoft { .. })
+    )
+}
+
+/// The first fault of a text as a script, which may set software breakpoints or not.
+fn script_fault(alloc: Global, script: &[u8], soft: bool) -> Option<ScriptError> {
+    if soft {
+        parse_soft(alloc, script).err()
+    } else {
+        parse(alloc, script).err()
+    }
+}
+
 /// The script's first fault and its line.
 fn explain_script<R: Eprint>(
     runtime: &R,
     alloc: Global,
+    words: &[String],
     script: Result<&[u8], FileFault>,
 ) -> io::Result<()> {
     let script = match script {
@@ -43,7 +62,7 @@ fn explain_script<R: Eprint>(
             return eprintln!(runtime; "the script was refused: {error}");
         }
     };
-    let Err(error) = parse(alloc, script) else {
+    let Some(error) = script_fault(alloc, script, sets_soft(alloc, words)) else {
         return Ok(());
     };
     eprintln!(runtime; "the script was refused: {error}")?;
@@ -57,9 +76,11 @@ fn explain_script<R: Eprint>(
 fn options_of(job: &Job) -> Option<ChipOptions> {
     match job {
         Job::Both(_, options, _, _) => Some(*options),
-        Job::Probe { .. } => None,
+        Job::Elf { options, .. } => Some(*options),
+        Job::Soft { options, .. } => Some(*options),
         Job::Chip { options, .. } => Some(*options),
-        Job::Sniff { .. } => None,
+        Job::Probe { .. } | Job::ProbeElf { .. } | Job::ProbeSoft { .. } | Job::Sniff { .. } =>
+            None,
     }
 }
 
@@ -80,7 +101,20 @@ fn load_fault(alloc: Global, options: &ChipOptions) -> LoadFault {
     }
 }
 
-/// The fault of an image, or of a recording's file: this has one alone.
+/// Whether a job loads an ELF file.
+fn loads_elf(job: &Job) -> bool {
+    matches!(job, Job::Elf { .. } | Job::ProbeElf { .. })
+}
+
+/// The fault of an ELF file, where it has one.
+fn elf_fault(file: Result<&[u8], FileFault>) -> Option<ElfFault> {
+    match file {
+        Ok(bytes) => read_elf(bytes).err(),
+        Err(_) => None,
+    }
+}
+
+/// The fault of an image, of an ELF file or of a recording's file: the last has one alone.
 fn explain_image<R: Eprint>(
     runtime: &R,
     alloc: Global,
@@ -90,6 +124,14 @@ fn explain_image<R: Eprint>(
     let Ok(job) = read_words(alloc, words) else {
         return Ok(());
     };
+    if loads_elf(&job) {
+        if let Some(fault) = elf_fault(image) {
+            return eprintln!(runtime; "the ELF file was refused: {fault}");
+        }
+    }
+    if loads_elf(&job) && matches!(image, Err(FileFault::TooLong)) {
+        return eprintln!(runtime; "the ELF file was refused: it has more than 16777216 bytes");
+    }
     let Some(options) = options_of(&job) else {
         return eprintln!(runtime;
             "a file of the recording was refused: it has more than 16777216 bytes"
@@ -125,7 +167,7 @@ pub fn explain<R: Eprint>(
 ) -> io::Result<()> {
     match status {
         Status::Words => explain_words(runtime, alloc, words),
-        Status::Script => explain_script(runtime, alloc, last),
+        Status::Script => explain_script(runtime, alloc, words, last),
         Status::Image => explain_image(runtime, alloc, words, last),
         _ => Ok(()),
     }

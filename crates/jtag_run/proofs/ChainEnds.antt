@@ -7,8 +7,8 @@ use Rattle.chip_core.specs.Feeds.{far_of, limit_met, nothing_coming}
 use Rattle.debug_model.specs.declared.command.Command.{Command}
 use Rattle.debug_model.specs.Chip.{Live}
 use Rattle.debug_model.specs.Loaded.{AsLoaded}
-use Rattle.debug_model.specs.Told.{Far, IsAsLoaded, IsRead}
-use Rattle.jtag_run.specs.Sessions.{IsLoadedBench, OnBench}
+use Rattle.debug_model.specs.Told.{IsAsLoaded, IsRead}
+use Rattle.jtag_run.specs.Sessions.{IsLoadedBench, OnBench, at_bench}
 use Rattle.jtag_run.proofs.BenchEnds.{on_bench}
 use Rattle.probe_session.specs.declared.ended.Ended.{Ended as End}
 use Rattle.wire_session.specs.Seen.{SinkSeen, WireSeen}
@@ -23,11 +23,11 @@ is_loaded bench b = subst (λ (o : Option Live). IfSome o AsLoaded) (sym b.is) b
 
 -- ---- the chip of the chain is the bench's
 
-chip_on : (bench : Option Live) (s : Beside) (unread : List ℕ) → chip_told (chain_far bench s unread) ≡ far_of bench unread
+pub chip_on : (bench : Option Live) (s : Beside) (unread : List ℕ) → chip_told (chain_far bench s unread) ≡ far_of bench unread
 chip_on None s unread = refl
 chip_on (Some l) s unread = refl
 
-chip_first : (plan : Plan) (bench : Option Live) → chip_told (planned_far plan bench) ≡ far_of bench []
+pub chip_first : (plan : Plan) (bench : Option Live) → chip_told (planned_far plan bench) ≡ far_of bench []
 chip_first plan None = refl
 chip_first plan (Some l) = refl
 
@@ -51,13 +51,20 @@ chain_read plan bench told is = subst IsRead (sym (ap chip_told is ∙ chip_firs
 abbrev pub at_chain : Option ChainFar → ℕ → WireSeen
 at_chain told faults = record { far = chip_told told; coming = nothing_coming; faults = faults }
 
+-- a session over a wire to the chain is one over a wire to the bench
+pub chain_as_bench : (plan : Plan) (old bench : Option Live) (told : Option ChainFar) (s : Beside) (unread : List ℕ) (script : List Command)
+    (was is : SinkSeen) (closed : End) → told ≡ planned_far plan old
+    → WireSession script (at_chain told 0) (at_chain (chain_far bench s unread) 0) was is closed
+    → WireSession script (at_bench old [] 0) (at_bench bench unread 0) was is closed
+chain_as_bench plan old bench told s unread script was is closed first went =
+    subst (λ far. WireSession script far (at_bench bench unread 0) was is closed)
+    (λ i. record { far = (ap chip_told first ∙ chip_first plan old) i; coming = nothing_coming; faults = 0 })
+    (subst (λ far. WireSession script (at_chain told 0) far was is closed)
+    (λ i. record { far = chip_on bench s unread i; coming = nothing_coming; faults = 0 }) went)
+
 pub on_chain : (plan : Plan) (old bench : Option Live) (told : Option ChainFar) (s : Beside) (unread : List ℕ) (script : List Command) (was is : SinkSeen)
     (closed : End) → told ≡ planned_far plan old
     → WireSession script (at_chain told 0) (at_chain (chain_far bench s unread) 0) was is closed
     → IfSome old (λ first. OnBench first script was is bench (limit_met bench) closed)
 on_chain plan old bench told s unread script was is closed first went =
-    on_bench old bench unread script was is closed
-    (subst (λ far. WireSession script far (record { far = far_of bench unread; coming = nothing_coming; faults = 0 }) was is closed)
-    (λ i. record { far = (ap chip_told first ∙ chip_first plan old) i; coming = nothing_coming; faults = 0 })
-    (subst (λ far. WireSession script (at_chain told 0) far was is closed)
-    (λ i. record { far = chip_on bench s unread i; coming = nothing_coming; faults = 0 }) went))
+    on_bench old bench unread script was is closed (chain_as_bench plan old bench told s unread script was is closed first went)

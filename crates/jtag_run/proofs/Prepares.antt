@@ -14,7 +14,7 @@ use Rattle.jtag_run.specs.Refusal.FailedFile.{of_image}
 use Rattle.jtag_run.specs.ServedChip.{PreparedChip}
 use Rattle.jtag_run.specs.Jobs.{Both, Chip}
 use Rattle.jtag_run.specs.declared.refusal.Refusal.{Refusal}
-use Rattle.jtag_run.specs.declared.refusal.Refusal.TheVariants.{Words, File, Script, Image, Open, OutOfMemory}
+use Rattle.jtag_run.specs.declared.refusal.Refusal.TheVariants.{Words, File, Script, Image, Elf, Open, OutOfMemory}
 use Rattle.jt_base.proofs.FaultLemmas.{rises_from}
 
 pub long_before : (name : List ℕ) (mid old : FilesSeen) (fault : LoadFault) → mid.held ≡ old.held → LongImage name mid fault → LongImage name old fault
@@ -42,6 +42,7 @@ image_cause job old mid new commands (Image fault) script same asked later more 
   image = inl (long_before job.image mid old fault same cause.0);
   asked = cause.1 ∙ ap (asked_more job.image) asked;
 }
+image_cause job old mid new commands (Elf fault) script same asked later more cause = absurd cause
 image_cause job old mid new commands Open script same asked later more cause = absurd cause
 image_cause job old mid new commands OutOfMemory script same asked later more cause = memory_front job old mid new asked cause
 
@@ -68,6 +69,7 @@ chip_file_cause job old new Words cause = absurd cause
 chip_file_cause job old new (File name) cause = (cause.0, cause.1, cause.2)
 chip_file_cause job old new (Script error) cause = absurd cause
 chip_file_cause job old new (Image fault) cause = (inl cause.0, cause.1)
+chip_file_cause job old new (Elf fault) cause = absurd cause
 chip_file_cause job old new Open cause = absurd cause
 chip_file_cause job old new OutOfMemory cause = cause
 

@@ -10,11 +10,11 @@ use Rattle.jtag_run.specs.Ran.{Ran}
 use Rattle.jtag_run.specs.Ran.Ran.{refused, sniffed}
 use Rattle.jtag_run.specs.Recording.{RanSniff, Shows}
 use Rattle.jtag_run.specs.Recording.RanSniff.{refused as unread, sniffed as shown}
-use Rattle.jtag_run.specs.Refusal.{AskedRecordingFront, ImageFileCause, SniffCause, asked_recording}
+use Rattle.jtag_run.specs.Refusal.{AskedRecordingFront, ImageFileCause, SniffCause}
 use Rattle.jtag_run.specs.Refusal.FaultyFile.{of_answers, of_stream}
-use Rattle.jtag_run.specs.Refusal.RefusalCause.{of_sniff}
+use Rattle.jtag_run.specs.Causes.RefusalCause.{of_sniff}
 use Rattle.jtag_run.specs.declared.refusal.Refusal.{Refusal}
-use Rattle.jtag_run.specs.declared.refusal.Refusal.TheVariants.{Words, File, Script, Image, Open, OutOfMemory}
+use Rattle.jtag_run.specs.declared.refusal.Refusal.TheVariants.{Words, File, Script, Image, Elf, Open, OutOfMemory}
 use Rattle.jtag_run.specs.declared.status.Status.{Status}
 use Rattle.command_line.specs.WrittenJob.{job_of}
 use Rattle.wire_session.specs.Seen.{SinkSeen}
@@ -32,6 +32,7 @@ stream_cause job old new Words cause = absurd cause
 stream_cause job old new (File name) cause = (cause.0, of_stream cause.1 cause.2)
 stream_cause job old new (Script error) cause = absurd cause
 stream_cause job old new (Image fault) cause = of_stream cause.0 cause.1
+stream_cause job old new (Elf fault) cause = absurd cause
 stream_cause job old new Open cause = absurd cause
 stream_cause job old new OutOfMemory cause = memory_first job old new cause
 
@@ -53,6 +54,7 @@ answers_cause job old mid new stream (File name) holds same asked later more cau
 answers_cause job old mid new stream (Script error) holds same asked later more cause = absurd cause
 answers_cause job old mid new stream (Image fault) holds same asked later more cause =
     of_answers stream holds (long_before job.answers mid old fault same cause.0) (cause.1 ∙ ap (asked_more job.answers) asked)
+answers_cause job old mid new stream (Elf fault) holds same asked later more cause = absurd cause
 answers_cause job old mid new stream Open holds same asked later more cause = absurd cause
 answers_cause job old mid new stream OutOfMemory holds same asked later more cause = memory_second job old mid new asked cause
 

@@ -14,6 +14,7 @@ use Rattle.jtag_run.specs.Ran.Ran.{refused, ran, generated, probed, served}
 use Rattle.jtag_run.specs.Ran.RanBoth.{refused as both_unready, ran as both_done}
 use Rattle.jtag_run.specs.Ran.RanGen.{refused as gen_unready, ran as gen_done}
 use Rattle.jtag_run.specs.Ran.RanProbe.{refused as probe_unready, ran as probe_done}
+use Rattle.jtag_run.specs.Bounds.{StaysWhereFair, slack_of}
 use Rattle.jtag_run.specs.Ending.{ClosedBy}
 use Rattle.jtag_run.specs.First.{first_chip}
 use Rattle.jtag_run.specs.Opening.{Joined, OpenFailed, refusal_of}
@@ -23,16 +24,18 @@ use Rattle.jtag_run.specs.Outside.{NetSeen, Outside}
 use Rattle.jtag_run.specs.Ends.{BenchEnd, LoopEnd, ProbeEnd}
 use Rattle.jtag_run.specs.Ends.LoopEnd.{joined, unjoined}
 use Rattle.jtag_run.specs.Refusal.{ChipCause, HoldsScript, JobCause, Refused, WordsCause, asked_both, asked_image}
-use Rattle.jtag_run.specs.Refusal.RefusalCause.{of_both, of_chip, of_gen, of_probe, of_words}
+use Rattle.jtag_run.specs.Causes.RefusalCause.{of_both, of_chip, of_gen, of_probe, of_words}
 use Rattle.jtag_run.specs.ServedChip.{RanChip, PreparedChip, ServedAt}
 use Rattle.jtag_run.specs.ServedChip.RanChip.{refused as refused_chip, served as served_chip}
 use Rattle.jtag_run.specs.Sessions.{IsLoadedBench, OnLoop}
+use Rattle.jtag_run.proofs.SeedBounds.{seed_stays}
 use Rattle.jtag_run.specs.Jobs.{Both, Chip, Gen, Probe, said_both, said_chip, said_gen, said_probe}
 use Rattle.jtag_run.specs.declared.refusal.Refusal.{Refusal}
 use Rattle.jtag_run.specs.declared.status.Status.{Status}
 use Rattle.jtag_run.specs.declared.status.Status.TheVariants.{Sink}
 use Rattle.chain_scan.specs.ChainPlan.{Plan}
-use Rattle.command_line.specs.WrittenJob.{job_of}
+use Rattle.chain_scan.specs.ChainSeen.{chain_slack}
+use Rattle.command_line.specs.WrittenJob.{OptionsInRange, job_of}
 use Rattle.command_line.specs.declared.job.Way.{Way}
 use Rattle.command_line.specs.declared.job.Way.TheVariants.{Straight, Looped, Chained}
 use Rattle.probe_session.specs.declared.ended.Ended.{Ended as End}
@@ -61,12 +64,14 @@ both_end_at : (way : Way) (job : Both) (image : List ℕ) (commands : List Comma
 both_end_at way job image commands net_was net_is s t mid left status is ended =
     subst (λ m. IfSome m (λ first. BothEnd way first commands net_was net_is s t left status)) is ended
 
-both_ran : (job : Both) (old new : Outside) (bench mid left : Option Live) (status : Status) (commands : List Command)
-    → Prepared job old.files.held commands mid → new.files.asked ≡ asked_both job old.files
+both_ran : (job : Both) (old new : Outside) (bench mid left : Option Live) (status : Status) (commands : List Command) (slack : ℕ)
+    → OptionsInRange job.options → Prepared job old.files.held commands mid → new.files.asked ≡ asked_both job old.files
+    → slack_of job.way ≡ slack → IfSome mid (λ first. StaysWhereFair slack commands first left)
     → IfSome mid (λ first. BothEnd job.way first commands old.net new.net old.sink new.sink left status) → RanBoth job old new bench left status
-both_ran job old new bench mid left status commands p asked ended =
+both_ran job old new bench mid left status commands slack ranges p asked goes stays ended =
     both_done commands p.image p.script_reads p.image_is p.loads asked
     (both_end_at job.way job p.image commands old.net new.net old.sink new.sink mid left status p.is ended)
+    (seed_stays job.way slack commands job.options p.image mid left ranges p.loads p.is goes stays)
 
 -- on the bench, alone or in a chain
 bench_end : (way : Way) → (way ≡ Looped → ⊥) → (commands : List Command) (net_was net_is : NetSeen) (s t : SinkSeen) (mid left : Option Live) (status : Status)
@@ -84,26 +89,29 @@ chained_loops : (way : Way) (plan : Plan) → way ≡ Chained plan → way ≡ L
 chained_loops way plan chained looped = let none : Chained plan ≡ Looped = sym chained ∙ looped in cc
 
 pub both_straight : (job : Both) (old new : Outside) (bench mid left : Option Live) (status : Status) (commands : List Command)
-    → Prepared job old.files.held commands mid → new.files.asked ≡ asked_both job old.files
-    → job.way ≡ Straight → new.net ≡ old.net → IfSome mid (λ first. BenchEnd first commands old.sink new.sink left status)
+    → OptionsInRange job.options → Prepared job old.files.held commands mid → new.files.asked ≡ asked_both job old.files
+    → job.way ≡ Straight → new.net ≡ old.net → IfSome mid (λ first. StaysWhereFair 0 commands first left)
+    → IfSome mid (λ first. BenchEnd first commands old.sink new.sink left status)
     → RanBoth job old new bench left status
-both_straight job old new bench mid left status commands p asked direct same ended =
-    both_ran job old new bench mid left status commands p asked
+both_straight job old new bench mid left status commands ranges p asked direct same stays ended =
+    both_ran job old new bench mid left status commands 0 ranges p asked (ap slack_of direct) stays
     (bench_end job.way (straight_loops job.way direct) commands old.net new.net old.sink new.sink mid left status same ended)
 
 pub both_chained : (job : Both) (plan : Plan) (old new : Outside) (bench mid left : Option Live) (status : Status) (commands : List Command)
-    → Prepared job old.files.held commands mid → new.files.asked ≡ asked_both job old.files
-    → job.way ≡ Chained plan → new.net ≡ old.net → IfSome mid (λ first. BenchEnd first commands old.sink new.sink left status)
+    → OptionsInRange job.options → Prepared job old.files.held commands mid → new.files.asked ≡ asked_both job old.files
+    → job.way ≡ Chained plan → new.net ≡ old.net → IfSome mid (λ first. StaysWhereFair chain_slack commands first left)
+    → IfSome mid (λ first. BenchEnd first commands old.sink new.sink left status)
     → RanBoth job old new bench left status
-both_chained job plan old new bench mid left status commands p asked chained same ended =
-    both_ran job old new bench mid left status commands p asked
+both_chained job plan old new bench mid left status commands ranges p asked chained same stays ended =
+    both_ran job old new bench mid left status commands chain_slack ranges p asked (ap slack_of chained) stays
     (bench_end job.way (chained_loops job.way plan chained) commands old.net new.net old.sink new.sink mid left status same ended)
 
 pub both_looped : (job : Both) (old new : Outside) (bench mid left : Option Live) (status : Status) (commands : List Command)
-    → Prepared job old.files.held commands mid → new.files.asked ≡ asked_both job old.files
-    → job.way ≡ Looped → IfSome mid (λ first. LoopEnd first commands old.net new.net old.sink new.sink left status) → RanBoth job old new bench left status
-both_looped job old new bench mid left status commands p asked loops ended =
-    both_ran job old new bench mid left status commands p asked
+    → OptionsInRange job.options → Prepared job old.files.held commands mid → new.files.asked ≡ asked_both job old.files
+    → job.way ≡ Looped → IfSome mid (λ first. StaysWhereFair 0 commands first left)
+    → IfSome mid (λ first. LoopEnd first commands old.net new.net old.sink new.sink left status) → RanBoth job old new bench left status
+both_looped job old new bench mid left status commands ranges p asked loops stays ended =
+    both_ran job old new bench mid left status commands 0 ranges p asked (ap slack_of loops) stays
     (subst (λ way. IfSome mid (λ first. BothEnd way first commands old.net new.net old.sink new.sink left status)) (sym loops) ended)
 
 pub both_refused : (job : Both) (old new : Outside) (bench left : Option Live) (status : Status) (refusal : Refusal) → JobCause job old.files new.files refusal
@@ -156,16 +164,16 @@ refused_words words old new bench status refusal cause was files net blank = ref
 pub run_both : (words : List (List ℕ)) (old new : Outside) (bench left : Option Live) (status : Status) (job : Both) → job_of words ≡ Some (said_both job)
     → bench ≡ None → RanBoth job old new bench left status → Ran words old new left status
 run_both words old new bench left status job is blank (both_unready refusal cause was net kept) = refused refusal (of_both job is cause) was net (kept ∙ blank)
-run_both words old new bench left status job is blank (both_done commands image script holds loads asked ended) =
-    ran job commands image (record { words_write = is; script_reads = script; image_is = holds; loads = loads }) asked ended
+run_both words old new bench left status job is blank (both_done commands image script holds loads asked ended stays) =
+    ran job commands image (record { words_write = is; script_reads = script; image_is = holds; loads = loads }) asked ended stays
 
 pub run_gen : (words : List (List ℕ)) (old new : Outside) (bench left : Option Live) (status : Status) (job : Gen) → job_of words ≡ Some (said_gen job)
     → bench ≡ None → new.files ≡ old.files
     → RanGen job old.net new.net old.sink new.sink bench left status → Ran words old new left status
 run_gen words old new bench left status job is blank files (gen_unready refusal cause was net kept) =
     refused refusal (of_gen job is cause files) was net (kept ∙ blank)
-run_gen words old new bench left status job is blank files (gen_done image made loads ended) =
-    generated job image (record { words_write = is; made = made; loads = loads }) files ended
+run_gen words old new bench left status job is blank files (gen_done image made loads ended stays) =
+    generated job image (record { words_write = is; made = made; loads = loads }) files ended stays
 
 pub run_probe : (words : List (List ℕ)) (old new : Outside) (bench : Option Live) (status : Status) (job : Probe) → job_of words ≡ Some (said_probe job)
     → bench ≡ None → RanProbe job old new status → Ran words old new bench status

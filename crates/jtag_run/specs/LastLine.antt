@@ -4,6 +4,8 @@ use Rattle.std.specs.Prelude.{◌≡◌, ℕ, true, false, List, [], ◌∷◌, 
 use Rattle.chip_core.specs.Loads.{load_fault_number}
 use Rattle.chip_core.specs.declared.load_fault.LoadFault.{LoadFault}
 use Rattle.debug_model.specs.ScriptFault.{fault_number}
+use Rattle.elf_load.specs.Elf.{fault_number as elf_fault_number}
+use Rattle.elf_load.specs.declared.fault.ElfFault.{ElfFault}
 use Rattle.debug_model.specs.ScriptText.{line_feed}
 use Rattle.debug_model.specs.Spelling.{hexadecimal}
 use Rattle.debug_model.specs.declared.script_error.ScriptError.{ScriptError}
@@ -29,8 +31,15 @@ file_failed name = codes "file failed: " ++ (name ++ line_feed ∷ [])
 abbrev pub script_refused : ScriptError → List ℕ
 script_refused e = codes "script refused: line " ++ decimal e.line ++ codes " fault " ++ decimal (fault_number e.fault) ++ line_feed ∷ []
 
+-- an image, or an ELF file in its place, by the number of its fault
+abbrev pub image_refused_by : ℕ → List ℕ
+image_refused_by number = codes "image refused: fault " ++ decimal number ++ line_feed ∷ []
+
 abbrev pub image_refused : LoadFault → List ℕ
-image_refused fault = codes "image refused: fault " ++ decimal (load_fault_number fault) ++ line_feed ∷ []
+image_refused fault = image_refused_by (load_fault_number fault)
+
+abbrev pub elf_refused : ElfFault → List ℕ
+elf_refused fault = image_refused_by (elf_fault_number fault)
 
 abbrev pub event_limit : List ℕ
 event_limit = codes "event limit" ++ line_feed ∷ []

@@ -1,3 +1,5 @@
+pub mod Bounds
+pub mod Causes
 pub mod Ending
 pub mod Ends
 pub mod First
@@ -11,6 +13,9 @@ pub mod ScriptFault
 pub mod ScriptText
 pub mod ServedChip
 pub mod Sessions
+pub mod SoftEnds
+pub mod SoftRan
+pub mod SoftRefusal
 pub mod Status
 pub mod Summary
 pub mod Jobs

@@ -2,8 +2,10 @@
 -- The program is this project's own.
 use Rattle.std.specs.Prelude.{◌≡◌, ℕ, List, [], Bool, true, Option, None, Some, IfSome}
 use Rattle.jt_base.specs.Faults.{Rises}
+use Rattle.abstract_debugger.specs.Debugger.{commands, first_state}
+use Rattle.abstract_debugger.specs.Plan.{Plan}
 use Rattle.bench_links.specs.Looped.{looped}
-use Rattle.chain_scan.specs.ChainPlan.{Plan}
+use Rattle.chain_scan.specs.ChainPlan.{Plan as ChainPlan}
 use Rattle.chip_core.specs.Feeds.{far_of, nothing_coming}
 use Rattle.command_line.specs.declared.job.Way.{Way}
 use Rattle.command_line.specs.declared.job.Way.TheVariants.{Straight, Looped, Chained}
@@ -17,7 +19,7 @@ use Rattle.jtag_run.specs.Outside.{NetSeen}
 use Rattle.probe_session.specs.declared.ended.Ended.{Ended as End}
 use Rattle.probe_session.specs.declared.ended.Ended.TheVariants as ends
 use Rattle.wire_session.specs.Seen.{SinkSeen, WireSeen}
-use Rattle.wire_session.specs.WireSession.{WireSession}
+use Rattle.wire_session.specs.WireSession.{WireSession, WireSessionBy}
 
 -- a bench whose chip is as it was loaded
 pub record IsLoadedBench (bench : Option Live) : Type 0 where
@@ -40,11 +42,15 @@ IsBenchEnd (ends.Wire why) limit = limit ≡ true
 IsBenchEnd (ends.Lost why) limit = Unit {0}
 IsBenchEnd ends.Sink limit = Unit {0}
 
--- by the chip that the bench had first, the sink before and behind the session, and the bench behind the end of the stream
-pub record OnBench (first : Live) (script : List Command) (was is : SinkSeen) (bench : Option Live) (limit : Bool) (closed : End) : Type 0 where
+-- by the chip that the bench had first, the plan behind the opening, the sink before and behind the session, and the bench behind the end of the stream
+pub record OnBenchBy (first : Live) (p : Plan) (was is : SinkSeen) (bench : Option Live) (limit : Bool) (closed : End) : Type 0 where
   pub unread : List ℕ
-  pub session : WireSession script (at_bench (Some first) [] 0) (at_bench bench unread 0) was is closed
+  pub session : WireSessionBy p (at_bench (Some first) [] 0) (at_bench bench unread 0) was is closed
   pub possible : IsBenchEnd closed limit
+
+-- of a session that runs a script
+abbrev pub OnBench : Live → List Command → (was is : SinkSeen) → Option Live → (limit : Bool) → End → Type 0
+OnBench first script was is bench limit closed = OnBenchBy first (commands script first_state) was is bench limit closed
 
 -- the same over both ends of a net that was joined: its faults, its ends, and bytes that came out otherwise than they were put are faults of the wire.
 -- Over a net that tells a pipe none come out so before it has counted a fault or an end
@@ -62,7 +68,7 @@ pub data Carried (way : Way) (first : Live) (script : List Command) (net_was net
     (closed : End) : Type 0 where
   straight : way ≡ Straight → net_is ≡ net_was → OnBench first script was is bench limit closed
       → Carried way first script net_was net_is was is bench limit closed
-  chained : (plan : Plan) → way ≡ Chained plan → net_is ≡ net_was → OnBench first script was is bench limit closed
+  chained : (plan : ChainPlan) → way ≡ Chained plan → net_is ≡ net_was → OnBench first script was is bench limit closed
       → Carried way first script net_was net_is was is bench limit closed
   over_net : (mid : NetSeen) → way ≡ Looped → Joined net_was mid → OnLoop first script mid net_is was is bench closed
       → Carried way first script net_was net_is was is bench limit closed
@@ -74,11 +80,14 @@ abbrev pub wired : ℕ → NetSeen → WireSeen
 wired bad net = record { far = net.state.chip; coming = coming_of net.state; faults = summed bad net.faults net.ends }
 
 -- over a net that tells its chip no byte came that is no answer
-pub record OnNet (script : List Command) (net_was net_is : NetSeen) (was is : SinkSeen) (closed : End) : Type 0 where
+pub record OnNetBy (p : Plan) (net_was net_is : NetSeen) (was is : SinkSeen) (closed : End) : Type 0 where
   pub bad_answers : ℕ
-  pub session : WireSession script (wired 0 net_was) (wired bad_answers net_is) was is closed
+  pub session : WireSessionBy p (wired 0 net_was) (wired bad_answers net_is) was is closed
   pub ties : net_is.state.ties ≡ net_was.state.ties
   pub judged : IfSome net_is.state.chip (λ _. bad_answers ≡ 0)
+
+abbrev pub OnNet : List Command → (net_was net_is : NetSeen) → (was is : SinkSeen) → End → Type 0
+OnNet script net_was net_is was is closed = OnNetBy (commands script first_state) net_was net_is was is closed
 
 -- the same of a net with a chain at its far side, of which nothing is told
 abbrev pub chained_wire : ℕ → NetSeen → WireSeen
@@ -90,6 +99,6 @@ pub record OnChainNet (script : List Command) (net_was net_is : NetSeen) (was is
   pub ties : net_is.state.ties ≡ net_was.state.ties
 
 -- by what is at the far side: a chip alone, or a chain with these devices beside it
-abbrev pub OnNetAs : (chain : Option Plan) → List Command → (net_was net_is : NetSeen) → (was is : SinkSeen) → End → Type 0
+abbrev pub OnNetAs : (chain : Option ChainPlan) → List Command → (net_was net_is : NetSeen) → (was is : SinkSeen) → End → Type 0
 OnNetAs None script net_was net_is was is closed = OnNet script net_was net_is was is closed
 OnNetAs (Some plan) script net_was net_is was is closed = OnChainNet script net_was net_is was is closed

@@ -3,6 +3,8 @@
 
 ghost use Rattle.std.specs.Prelude.{◌≡◌, ◌≤◌, IfSome, None};
 ghost use Rattle.debug_model.specs.Wire.{piece_most};
+ghost use Rattle.chain_scan.specs.ChainSeen.{chain_slack};
+ghost use Rattle.jtag_run.specs.Bounds.{StaysWhereFair};
 ghost use Rattle.jtag_run.specs.Ran.{RanBoth};
 ghost use Rattle.jtag_run.specs.Ends.{BenchEnd, LoopEnd};
 ghost use Rattle.jtag_run.specs.Sessions.{IsLoadedBench};
@@ -37,6 +39,7 @@ pub fn both_with<Q: Schedule, K: Sink>(
         (record { printed = K.contents out.old; faults = K.fault_count out.old })
         (record { printed = K.contents out.new; faults = K.fault_count out.new })
         bench.new result) }
+    ensures within { IfSome bench.old (λ first. StaysWhereFair 0 script.now first bench.new) }
 {
     let ended = run_on_bench(script, bench, piece, out);
     tell(out, ended, bench.at_limit())
@@ -54,6 +57,7 @@ fn chain_with<Q: Schedule, K: Sink>(
         (record { printed = K.contents out.old; faults = K.fault_count out.old })
         (record { printed = K.contents out.new; faults = K.fault_count out.new })
         bench.new result) }
+    ensures within { IfSome bench.old (λ first. StaysWhereFair chain_slack script.now first bench.new) }
 {
     let ended = run_on_chain(script, bench, plan, out);
     tell(out, ended, bench.at_limit())
@@ -75,6 +79,7 @@ fn loop_with<N: Net, Q: Schedule, K: Sink>(
         (record { printed = K.contents out.old; faults = K.fault_count out.old })
         (record { printed = K.contents out.new; faults = K.fault_count out.new })
         bench.new result) }
+    ensures within { IfSome bench.old (λ first. StaysWhereFair 0 script.now first bench.new) }
 {
     match net.join(alloc) {
         Ok(()) => {

@@ -2,6 +2,7 @@
 
 ghost use Rattle.std.specs.Prelude.{◌≡◌, [], IfErr, IfOk, IfSome, None, OnErr};
 ghost use Rattle.debug_model.specs.Wire.{piece_most};
+ghost use Rattle.jtag_run.specs.Bounds.{StaysWhereFair, slack_of};
 ghost use Rattle.jtag_run.specs.Ran.{Made, RanGen};
 ghost use Rattle.jtag_run.specs.Ends.{Counted, GenEnd, Unjoined};
 ghost use Rattle.jtag_run.specs.Refusal.{GenCause};
@@ -64,6 +65,7 @@ fn count<N: Net>(
         (record { state = N.state net.old; peer = N.peer net.old; faults = N.fault_count net.old; ends = N.end_count net.old })
         (record { state = N.state net.new; peer = N.peer net.new; faults = N.fault_count net.new; ends = N.end_count net.new })
         counts.new bench.new ended)) }
+    ensures within { IfSome bench.old (λ first. StaysWhereFair (slack_of way) script.now first bench.new) }
     ensures of_register { IfOk result IsOfRegister }
     ensures unjoined { IfErr result (λ fault. Unjoined way fault
         (record { state = N.state net.old; peer = N.peer net.old; faults = N.fault_count net.old; ends = N.end_count net.old })

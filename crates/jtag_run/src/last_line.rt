@@ -41,7 +41,8 @@ fn put_last_line<K: Sink>(out: &mut K, refusal: Refusal<'_>) -> Result<(), SinkF
         Refusal::Words => out.put(b"words refused\n"),
         Refusal::File(name) => put_file_failed(out, name),
         Refusal::Script(error) => out.put(&script_refused_line(&error)),
-        Refusal::Image(fault) => out.put(&image_refused_line(fault)),
+        Refusal::Image(fault) => out.put(&image_refused_line(fault.number())),
+        Refusal::Elf(fault) => out.put(&image_refused_line(fault.number())),
         Refusal::Open => out.put(b"wire failed: open\n"),
         Refusal::OutOfMemory => out.put(b"out of memory\n"),
     }

@@ -6,6 +6,9 @@
 
 mod both;
 mod chip;
+mod elf;
+mod elf_file;
+mod elf_sessions;
 mod far_side;
 mod generated;
 mod last_line;
@@ -18,6 +21,9 @@ mod recording;
 mod refusal;
 mod script_text;
 mod sessions;
+mod soft;
+mod soft_script;
+mod soft_sessions;
 mod status;
 mod summary;
 mod words;

@@ -2,11 +2,10 @@
 
 ghost use Rattle.std.specs.Prelude.{◌≡◌, ◌≤◌, ◌+◌, ◌++◌, codes, decimal, length};
 ghost use Rattle.arrayvec.specs.ArrayVec.{array_vec_len};
-ghost use Rattle.jtag_run.specs.LastLine.{asked_part, bad_byte, failed_at, given_part, image_refused, lost_by, lost_line};
+ghost use Rattle.jtag_run.specs.LastLine.{asked_part, bad_byte, failed_at, given_part, image_refused_by, lost_by, lost_line};
 ghost use Rattle.jtag_run.specs.LastLine.{refused_register, refused_word, script_refused, target_refused, wire_failed};
 ghost use Rattle.jtag_run.specs.Summary.{counted_line};
 
-use chip_core::LoadFault;
 use debug_model::{ScriptError, WireFault};
 use itoa::Buffer;
 use printed_lines::{LINE_MOST, LineText, push_decimal, push_hex_byte, push_hex_word, push_word};
@@ -44,13 +43,13 @@ pub fn script_refused_line(error: &ScriptError) -> LineText
     text
 }
 
-/// The last line of a run whose image is refused.
-pub fn image_refused_line(fault: LoadFault) -> LineText
-    ensures { result.items ≡ image_refused fault }
+/// The last line of a run whose image, or the ELF file in its place, is refused for the fault of this number.
+pub fn image_refused_line(number: u8) -> LineText
+    ensures { result.items ≡ image_refused_by number }
 {
     let mut text = LineText::new();
     push_word(&mut text, b"image refused: fault ");
-    push_decimal(&mut text, u32::from(fault.number()));
+    push_decimal(&mut text, u32::from(number));
     text.push(b'\n');
     text
 }

@@ -5,11 +5,13 @@ ghost use Rattle.jtag_run.specs.Ran.{Ran};
 
 use crate::both::run_both;
 use crate::chip::run_chip;
+use crate::elf::{run_elf, run_probe_elf};
 use crate::far_side::FarSide;
 use crate::generated::run_gen;
 use crate::last_line::refuse;
 use crate::probe::run_probe;
 use crate::recording::run_sniff;
+use crate::soft::{run_probe_soft, run_soft};
 use crate::status::Status;
 use crate::words::{Work, read_work};
 use chip_core::Bench;
@@ -19,8 +21,8 @@ use sys_events::SeedSchedule;
 
 /// Runs the program: `words` are those behind its name, and no call has opened the net.
 ///
-/// The words are judged first, then a script is read and judged, then an image is read and loaded, or both are made from a number; then the net is opened,
-/// where the job has one. Of a recording the stream is read, and then its answers. The first refusal ends the run with its last line. Before the words are
+/// The words are judged first, then a script is read and judged, then an image is read and loaded, or both are made from a number, or an ELF file is read and
+/// judged in the image's place; then the net is opened, where the job has one. Of a recording the stream is read, and then its answers. The first refusal ends the run with its last line. Before the words are
 /// accepted nothing else is asked for, and before files and image are, no net is opened.
 pub fn run<F: Files, N: FarSide, K: Sink>(
     alloc: Global,
@@ -52,7 +54,11 @@ pub fn run<F: Files, N: FarSide, K: Sink>(
     match work {
         Work::Both(job) => run_both(alloc, job, files, net, out, bench),
         Work::Gen(job) => run_gen(alloc, job, net, out, bench),
+        Work::Elf(job) => run_elf(alloc, &job, files, out, bench),
+        Work::Soft(job) => run_soft(alloc, &job, files, out, bench),
         Work::Probe(job) => run_probe(alloc, job, files, net, out),
+        Work::ProbeElf(job) => run_probe_elf(alloc, &job, files, net, out),
+        Work::ProbeSoft(job) => run_probe_soft(alloc, &job, files, net, out),
         Work::Chip(job) => run_chip(alloc, &job, files, net, out, bench),
         Work::Sniff(job) => run_sniff(alloc, &job, files, out),
     }

@@ -1,6 +1,7 @@
 use crate::status::Status;
 use chip_core::LoadFault;
 use debug_model::ScriptError;
+use elf_load::ElfFault;
 
 /// Why a run was refused before its session.
 #[derive(Clone, Copy)]
@@ -13,6 +14,8 @@ pub enum Refusal<'a> {
     Script(ScriptError),
     /// The image, or the chip that it is to be loaded into.
     Image(LoadFault),
+    /// The ELF file that stands in an image's place.
+    Elf(ElfFault),
     /// The net could not be opened.
     Open,
     /// No memory was left.
@@ -31,7 +34,7 @@ impl Refusal<'_> {
             Refusal::Words => Status::Words,
             Refusal::File(_) => Status::File,
             Refusal::Script(_) => Status::Script,
-            Refusal::Image(_) => Status::Image,
+            Refusal::Image(_) | Refusal::Elf(_) => Status::Image,
             Refusal::Open => Status::Wire,
             Refusal::OutOfMemory => Status::OutOfMemory,
         }

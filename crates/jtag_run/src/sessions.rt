@@ -5,6 +5,8 @@ ghost use Rattle.chip_core.specs.Feeds.{limit_met};
 ghost use Rattle.debug_model.specs.Net.{IsJoined};
 ghost use Rattle.debug_model.specs.Told.{IsAsLoaded, IsRead};
 ghost use Rattle.debug_model.specs.Wire.{piece_most};
+ghost use Rattle.chain_scan.specs.ChainSeen.{chain_slack};
+ghost use Rattle.jtag_run.specs.Bounds.{StaysWhereFair};
 ghost use Rattle.jtag_run.specs.Sessions.{IsLoadedBench, OnBench, OnChainNet, OnLoop, OnNet};
 ghost use Rattle.probe_session.specs.Causes.{SinkCaused};
 ghost use Rattle.wire_session.specs.Closing.{IsOfRegister};
@@ -18,7 +20,7 @@ use debug_model::{Net, Schedule, Script};
 use jt_base::Sink;
 use jtag_net::NetWire;
 use probe_session::Ended;
-use wire_session::run_session;
+use wire_session::{know_ranges, run_session};
 
 /// Runs the script over a wire to the bench, in pieces of at most `piece` bytes, from 1 to 256.
 pub fn run_on_bench<Q: Schedule, K: Sink>(
@@ -33,12 +35,16 @@ pub fn run_on_bench<Q: Schedule, K: Sink>(
         (record { printed = K.contents out.old; faults = K.fault_count out.old })
         (record { printed = K.contents out.new; faults = K.fault_count out.new })
         bench.new (limit_met bench.new) result) }
+    ensures within { IfSome bench.old (λ first. StaysWhereFair 0 script.now first bench.new) }
     ensures of_register { IsOfRegister result }
     ensures sink_cause { SinkCaused (K.fault_count out.old) (K.fault_count out.new) result }
     ensures sink_later { K.fault_count out.old ≤ K.fault_count out.new }
 {
+    know_ranges(script);
     let mut wire = BenchWire::new(bench, piece);
-    run_session(&mut wire, script, out)
+    let ended = run_session(&mut wire, script, out);
+    bench.know_limit();
+    ended
 }
 
 /// Runs the script over a wire to a chain of the chip on the bench and the devices of this plan.
@@ -53,12 +59,16 @@ pub fn run_on_chain<Q: Schedule, K: Sink>(
         (record { printed = K.contents out.old; faults = K.fault_count out.old })
         (record { printed = K.contents out.new; faults = K.fault_count out.new })
         bench.new (limit_met bench.new) result) }
+    ensures within { IfSome bench.old (λ first. StaysWhereFair chain_slack script.now first bench.new) }
     ensures of_register { IsOfRegister result }
     ensures sink_cause { SinkCaused (K.fault_count out.old) (K.fault_count out.new) result }
     ensures sink_later { K.fault_count out.old ≤ K.fault_count out.new }
 {
+    know_ranges(script);
     let mut chain = ChainBench::new(bench, &plan);
-    run_chain_session(&mut chain, plan, script, out)
+    let ended = run_chain_session(&mut chain, plan, script, out);
+    bench.know_limit();
+    ended
 }
 
 /// Runs the script over both ends of a joined net, with the bench at its far end.
@@ -76,13 +86,16 @@ pub fn run_on_loop<N: Net, Q: Schedule, K: Sink>(
         (record { printed = K.contents out.old; faults = K.fault_count out.old })
         (record { printed = K.contents out.new; faults = K.fault_count out.new })
         bench.new result) }
+    ensures within { IfSome bench.old (λ first. StaysWhereFair 0 script.now first bench.new) }
     ensures of_register { IsOfRegister result }
     ensures sink_cause { SinkCaused (K.fault_count out.old) (K.fault_count out.new) result }
     ensures sink_later { K.fault_count out.old ≤ K.fault_count out.new }
 {
+    know_ranges(script);
     let mut wire = LoopWire::new(net, bench);
     let ended = run_session(&mut wire, script, out);
     wire.know_blame();
+    bench.know_limit();
     ended
 }
 

@@ -39,6 +39,52 @@ pub struct GenJob {
     pub way: Way,
 }
 
+/// A chip and a probe in one process: the probe loads an ELF file, and then runs a script.
+#[derive(Drop)]
+pub struct ElfJob {
+    /// The ELF file.
+    pub file: String,
+    /// The file of the session's script.
+    pub script: String,
+    /// How the chip is made; its harts are halted at the start, whatever this says.
+    pub options: ChipOptions,
+    /// The most bytes of a piece of the stream, from 1 to 256.
+    pub piece: u16,
+}
+
+/// A chip and a probe in one process, with a script that may set software breakpoints.
+#[derive(Drop)]
+pub struct SoftJob {
+    /// The file of the chip's image.
+    pub image: String,
+    /// The file of the session's script.
+    pub script: String,
+    /// How the chip is made.
+    pub options: ChipOptions,
+    /// The most bytes of a piece of the stream, from 1 to 256.
+    pub piece: u16,
+}
+
+/// A probe alone, which connects to a chip over a net, and runs a script that may set software breakpoints.
+#[derive(Drop)]
+pub struct ProbeSoftJob {
+    /// The address of the chip.
+    pub at: String,
+    /// The file of the session's script.
+    pub script: String,
+}
+
+/// A probe alone, which connects to a chip over a net, loads an ELF file and then runs a script.
+#[derive(Drop)]
+pub struct ProbeElfJob {
+    /// The address of the chip.
+    pub at: String,
+    /// The ELF file.
+    pub file: String,
+    /// The file of the session's script.
+    pub script: String,
+}
+
 /// A probe alone, which connects to a chip over a net.
 #[derive(Drop)]
 pub struct ProbeJob {
@@ -81,8 +127,16 @@ pub enum Work {
     Both(BothJob),
     /// The same, with what is made from a number.
     Gen(GenJob),
+    /// Chip and probe in one process, with an ELF file that the probe loads.
+    Elf(ElfJob),
+    /// Chip and probe in one process, with a script that may set software breakpoints.
+    Soft(SoftJob),
     /// The probe alone.
     Probe(ProbeJob),
+    /// The same, with an ELF file that it loads.
+    ProbeElf(ProbeElfJob),
+    /// The same, with a script that may set software breakpoints.
+    ProbeSoft(ProbeSoftJob),
     /// The chip alone.
     Chip(ChipJob),
     /// A recording of a wire.
@@ -118,7 +172,31 @@ fn work_of(job: Job) -> Work
 {
     match job {
         Job::Both(inputs, options, piece, way) => work_over(inputs, options, piece, way),
+        Job::Elf {
+            file,
+            script,
+            options,
+            piece,
+        } => Work::Elf(ElfJob {
+            file,
+            script,
+            options,
+            piece,
+        }),
+        Job::Soft {
+            image,
+            script,
+            options,
+            piece,
+        } => Work::Soft(SoftJob {
+            image,
+            script,
+            options,
+            piece,
+        }),
         Job::Probe { at, script, chain } => Work::Probe(ProbeJob { at, script, chain }),
+        Job::ProbeElf { at, file, script } => Work::ProbeElf(ProbeElfJob { at, file, script }),
+        Job::ProbeSoft { at, script } => Work::ProbeSoft(ProbeSoftJob { at, script }),
         Job::Chip {
             at,
             image,

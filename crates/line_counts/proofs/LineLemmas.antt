@@ -11,7 +11,7 @@ use Rattle.debug_model.specs.Spelling.{spelled_address}
 use Rattle.debug_model.specs.ScriptText.{line_feed, lines_of}
 use Rattle.abstract_debugger.specs.Lines.{Line, is_error, words_of_line, text_of, text_of_all, spelled_places, places_from, spelled_cause, spelled_use}
 use Rattle.abstract_debugger.specs.Lines.{spelled_what, spelled_hit}
-use Rattle.abstract_debugger.specs.Lines.Line.{Idcode, Selected, Halted, Running, Resumed, Register, Element, Wrote, Row, Via, Ebreak, Slot, SoftSet, SoftClear}
+use Rattle.abstract_debugger.specs.Lines.Line.{Idcode, Selected, Halted, Running, Resumed, Register, Element, Wrote, Row, Via, Ebreak, Slot, Loaded, SoftSet, SoftClear}
 use Rattle.abstract_debugger.specs.Lines.Line.{NoHart, IsRunning, MemoryFault, RegisterRefused, NoFreeSlot, SlotNotInUse, SoftIsSet, SoftNotSet}
 use Rattle.abstract_debugger.specs.Lines.Line.{NoFreeSoftBreak, SoftBreaksAreSet}
 use Rattle.abstract_debugger.specs.Slots.{Use}
@@ -66,6 +66,7 @@ line_clean (Via Bus) = refl
 line_clean (Ebreak true) = refl
 line_clean (Ebreak false) = refl
 line_clean (Slot slot used hit) = simp (list_all-append, decimal_clean, use_clean, hit_clean)
+line_clean (Loaded count) = simp decimal_clean
 line_clean (SoftSet address) = simp (list_all-append, hexadecimal_clean)
 line_clean (SoftClear address) = simp (list_all-append, hexadecimal_clean)
 line_clean (NoHart hart) = simp decimal_clean
@@ -94,6 +95,7 @@ error_told (Row address bytes) = refl
 error_told (Via path) = refl
 error_told (Ebreak is_on) = refl
 error_told (Slot slot used hit) = refl
+error_told (Loaded count) = refl
 error_told (SoftSet address) = refl
 error_told (SoftClear address) = refl
 error_told (NoHart hart) = refl

@@ -233,3 +233,40 @@ fn an_element_stored_by_the_bus_costs_one_scan(rt: HostRuntime) -> Result<(), Fa
     assert_eq!(rt; whole.wrapping_sub(one), 46 * (511 + 3));
     Ok(())
 }
+
+/// The rises of TCK of an opening and a load of so many elements of 8 bytes.
+fn load_rises(rt: &impl Abort, alloc: Global, busy: u8, count: u16) -> Result<u64, Fail>
+    requires busy { (1 ≤ busy) × (busy ≤ 32) }
+    requires some { (1 ≤ count) × (count ≤ most_elements) }
+{
+    let mut bench = Bench::blank();
+    let schedule = SeedSchedule::new(7, busy, 1);
+    bench.load(alloc, &[], 1, RAM_LEAST, Start::Halted, schedule)?;
+    let mut into = ArrayVec::new();
+    assert_eq!(rt; load_over(&mut bench, count, &mut into), Ok(Ok(())));
+    Ok(bench.counts().rounds)
+}
+
+fn load_over<Q: Schedule>(
+    bench: &mut Bench<Q>,
+    count: u16,
+    into: &mut ArrayVec<u64, 512>,
+) -> Result<Result<(), AccessFault>, Fault>
+    requires loaded { IsSome bench.old }
+    requires fresh { IfSome bench.old AsLoaded }
+    requires some { (1 ≤ count) × (count ≤ most_elements) }
+    requires empty { into.old.items ≡ [] }
+{
+    let mut link = Link::paced(Scanner::new(BenchWire::new(bench, PIECE)));
+    let _target = connect(&mut link)?;
+    try_load(&mut link, Size::B8, 0x8000_0000, count, into)
+}
+
+// two scans a double word, a scan more for each call of 64 of them, and nine for a run's start and its end, which has its last element: at most 94 rises each
+#[test]
+fn a_double_loaded_by_the_bus_costs_two_scans(rt: HostRuntime) -> Result<(), Fail> {
+    let whole = load_rises(&rt, rt.alloc(), 1, 512)?;
+    let one = load_rises(&rt, rt.alloc(), 1, 1)?;
+    assert_eq!(rt; whole.wrapping_sub(one), 46 * (2 * 510 + 8 + 9));
+    Ok(())
+}

@@ -2,6 +2,8 @@
 #![tactic(auto)]
 
 #[cfg(test)]
+mod block_costs;
+#[cfg(test)]
 mod block_edges;
 #[cfg(test)]
 mod blocks;

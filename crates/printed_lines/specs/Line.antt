@@ -14,6 +14,7 @@ use Rattle.abstract_debugger.specs.Lines.Line.{
   Via,
   Ebreak,
   Slot,
+  Loaded,
   SoftSet,
   SoftClear,
   NoHart,
@@ -44,6 +45,7 @@ line_of (line.Row address bytes) = Row address bytes.items
 line_of (line.Via path) = Via path
 line_of (line.Ebreak is_on) = Ebreak is_on
 line_of (line.Slot number use_here hit) = Slot number (use_named use_here) hit
+line_of (line.Loaded count) = Loaded count
 line_of (line.SoftSet address) = SoftSet address
 line_of (line.SoftClear address) = SoftClear address
 line_of (line.NoHart hart) = NoHart hart

@@ -41,6 +41,8 @@ pub enum Line {
     Ebreak(bool),
     /// A slot's number, what it is used for, and whether its hit is to be shown.
     Slot(u8, SlotUse, bool),
+    /// A program of so many bytes was laid into memory.
+    Loaded(u32),
     /// A software breakpoint stands at this address now.
     SoftSet(u64),
     /// The software breakpoint at this address is taken out.

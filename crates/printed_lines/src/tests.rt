@@ -47,6 +47,7 @@ fn a_line_of_words_has_its_text(rt: HostRuntime) -> Result<(), Fail> {
         (Line::Via(Path::Bus), "via bus\n"),
         (Line::Ebreak(true), "ebreak on\n"),
         (Line::Ebreak(false), "ebreak off\n"),
+        (Line::Loaded(131_072), "loaded 131072\n"),
         (Line::SoftSet(RAM), "soft 0x0000000080000000 set\n"),
         (Line::SoftClear(RAM), "soft 0x0000000080000000 clear\n"),
     ];

@@ -128,6 +128,7 @@ impl Line {
                 push_word(&mut text, switch_word(*is_on));
             }
             Line::Slot(slot, used, hit) => push_slot(&mut text, *slot, *used, *hit),
+            Line::Loaded(count) => push_numbered(&mut text, b"loaded ", *count),
             Line::SoftSet(address) => push_around(&mut text, b"soft ", *address, b" set"),
             Line::SoftClear(address) => push_around(&mut text, b"soft ", *address, b" clear"),
             Line::NoHart(hart) => {

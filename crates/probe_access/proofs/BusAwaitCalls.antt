@@ -1,16 +1,16 @@
 -- The calls of accesses by the system bus that are awaited, one behind another.
-use Rattle.std.proofs.Common.{◌≡◌, ◌∙◌, ◌≤◌, ◌+◌, ◌++◌, ℕ, List, [], ◌∷◌, length, true, false, sym, ap, subst, length-append, arith}
+use Rattle.std.proofs.Common.{◌≡◌, ◌∙◌, ◌≤◌, ◌+◌, ◌++◌, ℕ, List, [], ◌∷◌, length, Option, true, false, sym, ap, subst, length-append, arith}
 use Rattle.rv_model.specs.declared.size.Size.{Size}
-use Rattle.debug_model.specs.Addresses.{sbcs_address, sbdata0_address}
-use Rattle.debug_model.specs.Commands.{low_half}
+use Rattle.debug_model.specs.Addresses.{sbcs_address}
 use Rattle.debug_model.specs.declared.dmi.DmiFault.{DmiFault}
+use Rattle.debug_model.specs.Told.{Far}
 use Rattle.probe_access.specs.declared.fault.AccessFault.{AccessFault}
 use Rattle.probe_run.specs.Acts.{Did, Tells}
 use Rattle.probe_run.specs.Acts.Act.{Put}
-use Rattle.probe_access.specs.Blocks.{element_at}
+use Rattle.probe_access.specs.Blocks.{element_at, value_at}
 use Rattle.probe_access.specs.BusAwaits.{LoadLastFailed, LoadNextFailed, LoadsAwaited, StoreNextFailed, StoredNext, StoresAwaited}
 use Rattle.probe_access.specs.BusRuns.{Starting, addressed}
-use Rattle.probe_access.specs.BusStoreStreams.{stores_started}
+use Rattle.probe_access.specs.BusStoreStreams.{element_puts, stores_started, upper_at}
 use Rattle.probe_access.specs.BusStreams.{MoreRead, ReadingData, run_started, running}
 use Rattle.probe_access.specs.Faults.{Among, BrokeIn}
 use Rattle.probe_access.proofs.BusPolls.{end_counted}
@@ -18,26 +18,42 @@ use Rattle.probe_access.proofs.RegisterCalls.{broke_counted}
 
 -- ---- stores
 
-pub store_counted : (low at count mid_count new_count : ℕ) (old new : Tells) (e : AccessFault) → count ≤ mid_count → mid_count ≤ new_count
-    → StoreNextFailed low at mid_count new_count old new e → StoreNextFailed low at count new_count old new e
-store_counted low at count mid_count new_count old new e le later (StoreNextFailed.in_put why is b) =
-    StoreNextFailed.in_put why is (broke_counted (Starting (Put sbdata0_address low ∷ [])) count mid_count new_count old new.far why le later b)
-store_counted low at count mid_count new_count old new e le later (StoreNextFailed.in_end asked did f) =
+store_counted : (upper value at count mid_count new_count : ℕ) (old new : Tells) (e : AccessFault) → count ≤ mid_count → mid_count ≤ new_count
+    → StoreNextFailed upper value at mid_count new_count old new e → StoreNextFailed upper value at count new_count old new e
+store_counted upper value at count mid_count new_count old new e le later (StoreNextFailed.in_put why is b) =
+    StoreNextFailed.in_put why is
+    (broke_counted (Among (Starting (element_puts upper value))) count mid_count new_count old new.far why le later b)
+store_counted upper value at count mid_count new_count old new e le later (StoreNextFailed.in_end asked did f) =
     StoreNextFailed.in_end asked did (end_counted at count mid_count new_count asked new e le later f)
 
-pub stores_begun : (size : Size) (address value from at : ℕ) (old new : Tells) → at ≡ element_at size address from
-    → Did old (stores_started size at value) new → StoresAwaited size address value from old from new
-stores_begun size address value from at old new is did = StoresAwaited.begun new (subst (λ a. Did old (stores_started size a value) new) is did)
+pub stores_begun : (size : Size) (address : ℕ) (values : List ℕ) (from at upper : ℕ) (old new : Tells) → at ≡ element_at size address from
+    → upper ≡ upper_at values from → Did old (stores_started size at upper) new → StoresAwaited size address values from old from new
+stores_begun size address values from at upper old new is own did =
+    StoresAwaited.begun new
+    (subst (λ u. Did old (stores_started size (element_at size address from) u) new) own (subst (λ a. Did old (stores_started size a upper) new) is did))
 
-pub stores_next : (size : Size) (address value from n low : ℕ) (old mid new : Tells) → low ≡ low_half value → StoresAwaited size address value from old n mid
-    → StoredNext low mid new → StoresAwaited size address value from old (n + 1) new
-stores_next size address value from n low old mid new is s one = StoresAwaited.next n mid new s (subst (λ w. StoredNext w mid new) is one)
+pub start_failed : (size : Size) (address : ℕ) (values : List ℕ) (from at upper old_count new_count : ℕ) (old : Tells) (told : Option Far) (why : DmiFault)
+    → at ≡ element_at size address from → upper ≡ upper_at values from
+    → BrokeIn (Starting (stores_started size at upper)) old_count new_count old told why
+    → BrokeIn (Starting (stores_started size (element_at size address from) (upper_at values from))) old_count new_count old told why
+start_failed size address values from at upper old_count new_count old told why is own b =
+    subst (λ u. BrokeIn (Starting (stores_started size (element_at size address from) u)) old_count new_count old told why) own
+    (subst (λ a. BrokeIn (Starting (stores_started size a upper)) old_count new_count old told why) is b)
 
-pub store_failed_as : (low low' at at' count mid_count new_count : ℕ) (old new : Tells) (e : AccessFault) → low ≡ low' → at ≡ at' → count ≤ mid_count
-    → mid_count ≤ new_count → StoreNextFailed low at mid_count new_count old new e → StoreNextFailed low' at' count new_count old new e
-store_failed_as low low' at at' count mid_count new_count old new e is there le later f =
-    subst (λ w. StoreNextFailed w at' count new_count old new e) is
-    (subst (λ a. StoreNextFailed low a count new_count old new e) there (store_counted low at count mid_count new_count old new e le later f))
+pub stores_next : (size : Size) (address : ℕ) (values : List ℕ) (from n upper value : ℕ) (old mid new : Tells) → upper ≡ upper_at values n
+    → value ≡ value_at values n → StoresAwaited size address values from old n mid → StoredNext upper value mid new
+    → StoresAwaited size address values from old (n + 1) new
+stores_next size address values from n upper value old mid new own is s one =
+    StoresAwaited.next n mid new s (subst (λ v. StoredNext (upper_at values n) v mid new) is (subst (λ u. StoredNext u value mid new) own one))
+
+pub store_failed_as : (upper upper' value value' at at' count mid_count new_count : ℕ) (old new : Tells) (e : AccessFault) → upper ≡ upper'
+    → value ≡ value' → at ≡ at' → count ≤ mid_count → mid_count ≤ new_count → StoreNextFailed upper value at mid_count new_count old new e
+    → StoreNextFailed upper' value' at' count new_count old new e
+store_failed_as upper upper' value value' at at' count mid_count new_count old new e own is there le later f =
+    subst (λ u. StoreNextFailed u value' at' count new_count old new e) own
+    (subst (λ v. StoreNextFailed upper v at' count new_count old new e) is
+    (subst (λ a. StoreNextFailed upper value a count new_count old new e) there
+    (store_counted upper value at count mid_count new_count old new e le later f)))
 
 -- ---- loads
 

@@ -13,10 +13,10 @@ use Rattle.probe_run.proofs.ActLemmas.{broke_then, did_list, did_then}
 use Rattle.probe_access.specs.Accesses.{IfMemory}
 use Rattle.probe_access.specs.Blocks.{element_at}
 use Rattle.probe_access.specs.BusAwaits.{AllAwaited, LoadsAwaited, StoresAwaited}
-use Rattle.probe_access.specs.BusBlockRuns.{BusCauses, BusLoads, BusReported, BusStores}
+use Rattle.probe_access.specs.BusBlockRuns.{BusCauses, BusLoads, BusReported, BusValueStores}
 use Rattle.probe_access.specs.BusRuns.{BusEndFailed, BusEnded, BusPolled, BusRefused, bus_poll}
 use Rattle.probe_access.specs.BusRuns.BusEnding.{at_poll, at_clear}
-use Rattle.probe_access.specs.BusStreams.{Ran, RanThrough, RunLoads, Stopped}
+use Rattle.probe_access.specs.BusStreams.{Ran, RunLoads, Stopped}
 use Rattle.probe_access.proofs.BlockCauses.{Calls, calls, calls_then}
 
 -- ---- a fault behind more calls
@@ -93,24 +93,17 @@ end_causes address old_count new_count a c (access_fault.Odd shown) later f = re
 
 -- ---- the calls of loads
 
-pub ran_calls : (size : Size) (address : ℕ) (read : List ℕ) (old new : Tells) → Ran size address read old new → Calls old new
-ran_calls size address read old new r =
-    calls_then old r.stopped new
-    (calls_then old r.read r.stopped (calls_then old r.begun r.read (calls _ old r.begun r.starts) (calls _ r.begun r.read r.first.did))
-    (calls _ r.read r.stopped r.stops)) (calls _ r.stopped new r.last.did)
-
-through_calls : (size : Size) (address : ℕ) (values : List ℕ) (old new : Tells) → RanThrough size address values old new → Calls old new
-through_calls size address values old new r =
-    calls_then old r.mid new (ran_calls size address values old r.mid r.ran) (ended_calls r.mid new r.ends)
+pub ran_calls : (size : Size) (address last : ℕ) (read : List ℕ) (old new : Tells) → Ran size address read last old new → Calls old new
+ran_calls size address last read old new r =
+    calls_then old r.read new (calls_then old r.begun r.read (calls _ old r.begun r.starts) (calls _ r.begun r.read r.first.did))
+    (calls _ r.read new r.ends.did)
 
 stopped_calls : (size : Size) (address count last : ℕ) (values : List ℕ) (old new : Tells) → Stopped size address count last values old new → Calls old new
 stopped_calls size address count last values old new s =
-    calls_then old s.polled new
-    (calls_then old s.ran s.polled (ran_calls size address s.read old s.ran s.runs) (polled_calls last s.ran s.polled s.shows))
-    (calls _ s.polled new s.found)
+    calls_then old s.polled new (ran_calls size address last s.read old s.polled s.runs) (calls _ s.polled new s.found)
 
 run_loads_calls : (size : Size) (address count : ℕ) (values : List ℕ) (a b : Tells) → RunLoads size address count values a b → Calls a b
-run_loads_calls size address count values a b (RunLoads.all all r) = through_calls size address values a b r
+run_loads_calls size address count values a b (RunLoads.all all r) = ran_calls size address r.last values a b r.ran
 run_loads_calls size address count values a b (RunLoads.some last s fine early) = stopped_calls size address count last values a b s
 
 pub awaited_load_calls : (size : Size) (address : ℕ) (was : List ℕ) (a : Tells) (values : List ℕ) (b : Tells) → LoadsAwaited size address was a values b
@@ -139,17 +132,18 @@ no_memory P e why is = subst (λ (x : AccessFault). IfMemory P x) (sym is) tt
 
 -- ---- and of stores
 
-pub awaited_store_calls : (size : Size) (address value from : ℕ) (a : Tells) (n : ℕ) (b : Tells) → StoresAwaited size address value from a n b → Calls a b
-awaited_store_calls size address value from a _ b (StoresAwaited.begun _ did) = calls _ a b did
-awaited_store_calls size address value from a _ b (StoresAwaited.next n mid _ s one) =
-    calls_then a mid b (awaited_store_calls size address value from a n mid s)
+pub awaited_store_calls : (size : Size) (address : ℕ) (values : List ℕ) (from : ℕ) (a : Tells) (n : ℕ) (b : Tells)
+    → StoresAwaited size address values from a n b → Calls a b
+awaited_store_calls size address values from a _ b (StoresAwaited.begun _ did) = calls _ a b did
+awaited_store_calls size address values from a _ b (StoresAwaited.next n mid _ s one) =
+    calls_then a mid b (awaited_store_calls size address values from a n mid s)
     (calls_then mid one.asked b (calls _ mid one.asked one.put) (ended_calls one.asked b one.ends))
 
-pub bus_stores_calls : (size : Size) (address value : ℕ) (a : Tells) (n : ℕ) (b : Tells) → BusStores size address value a n b → Calls a b
-bus_stores_calls size address value a _ b (BusStores.ran count _ r) = calls_then a r.mid b (calls _ a r.mid r.asked) (ended_calls r.mid b r.ends)
-bus_stores_calls size address value a _ b (BusStores.ran_on count last done _ s fine early) =
+pub bus_stores_calls : (size : Size) (address : ℕ) (values : List ℕ) (a : Tells) (n : ℕ) (b : Tells) → BusValueStores size address values a n b → Calls a b
+bus_stores_calls size address values a _ b (BusValueStores.ran count _ r) = calls_then a r.mid b (calls _ a r.mid r.asked) (ended_calls r.mid b r.ends)
+bus_stores_calls size address values a _ b (BusValueStores.ran_on count last done _ s fine early) =
     calls_then a s.polled b
     (calls_then a s.shows.mid s.polled (calls _ a s.shows.mid s.shows.asked) (polled_calls last s.shows.mid s.polled s.shows.polled))
     (calls _ s.polled b s.found.did)
-bus_stores_calls size address value a _ b (BusStores.awaited from n mid _ s w) =
-    calls_then a mid b (bus_stores_calls size address value a from mid s) (awaited_store_calls size address value from mid n b w)
+bus_stores_calls size address values a _ b (BusValueStores.awaited from n mid _ s w) =
+    calls_then a mid b (bus_stores_calls size address values a from mid s) (awaited_store_calls size address values from mid n b w)

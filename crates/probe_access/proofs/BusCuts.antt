@@ -31,6 +31,20 @@ nth_of (x ∷ xs) (z ∷ front) rest y is =
     subst (λ (w : Act). Nth (x ∷ xs) (w ∷ front) y) (let e : x ≡ z = cc in e)
     (there x xs front y (nth_of xs front rest y (let e : xs ≡ front ++ y ∷ rest = cc in e)))
 
+-- it is one of the first, or one of the others behind all those
+pub data NthSplit (xs ys front : List Act) (y : Act) : Type 0 where
+  in_first : Nth xs front y → NthSplit xs ys front y
+  in_rest : (more : List Act) → front ≡ xs ++ more → Nth ys more y → NthSplit xs ys front y
+
+split_behind : (x : Act) (xs ys front : List Act) (y : Act) → NthSplit xs ys front y → NthSplit (x ∷ xs) ys (x ∷ front) y
+split_behind x xs ys front y (NthSplit.in_first n) = NthSplit.in_first (Nth.there x xs front y n)
+split_behind x xs ys front y (NthSplit.in_rest more parts n) = NthSplit.in_rest more (ap (λ l. x ∷ l) parts) n
+
+pub nth_split : (xs ys front : List Act) (y : Act) → Nth (xs ++ ys) front y → NthSplit xs ys front y
+nth_split [] ys front y n = NthSplit.in_rest front refl n
+nth_split (x ∷ xs) ys _ _ (Nth.here _ _) = NthSplit.in_first (Nth.here x xs)
+nth_split (x ∷ xs) ys _ y (Nth.there _ _ front _ n) = split_behind x xs ys front y (nth_split xs ys front y n)
+
 -- ---- the bus with nothing under way, before an access or behind one
 
 pub data BusLeft (N : Memory → Memory → Type 0) (base t : Site) : Type 0 where

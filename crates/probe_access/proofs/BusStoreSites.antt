@@ -5,21 +5,21 @@ use Rattle.rv_model.specs.Board.{Board}
 use Rattle.rv_model.specs.Memory.{Memory, after_store, store_answer}
 use Rattle.rv_model.proofs.MemoryLemmas.{after_store_refused}
 use Rattle.rv_model.proofs.WideMemory.{stored_ready}
-use Rattle.debug_model.specs.Commands.{high_half, joined_halves, low_half}
+use Rattle.debug_model.specs.Commands.{high_half}
 use Rattle.debug_model.specs.Deeds.{Deed, ran}
 use Rattle.debug_model.specs.Module.{Site}
 use Rattle.debug_model.specs.SystemBus.{BusDone, BusUnit}
 use Rattle.debug_model.specs.Told.{BusReady, SiteReady}
 use Rattle.probe_access.specs.Accesses.{OneBusAccess, unchanged}
-use Rattle.probe_access.specs.Blocks.{element_at}
-use Rattle.probe_access.specs.BusBlocks.{BusNotStoredOne, BusStoredEach}
-use Rattle.probe_access.specs.BusBlocks.BusStoredEach.{further as stored_further}
+use Rattle.probe_access.specs.Blocks.{element_at, value_at}
+use Rattle.probe_access.specs.BusBlocks.{BusNotStoredOne, BusStoredValues}
+use Rattle.probe_access.specs.BusBlocks.BusStoredValues.{further as stored_further}
 use Rattle.probe_access.proofs.AccessEnd.{ready_before}
 use Rattle.probe_access.proofs.Aside.{accessed, passed}
 use Rattle.probe_access.proofs.BusSites.{AtBus, at_bus}
 use Rattle.probe_access.proofs.BusStages.{BusStage, done_behind, done_site, stage_ran}
 use Rattle.probe_access.proofs.BusStages.BusStage.{waits, made}
-use Rattle.probe_access.proofs.BusStoreUnits.{StoreEnd, still_bus, store_end, store_pends, unstored_bus, value_whole, writing}
+use Rattle.probe_access.proofs.BusStoreUnits.{StoreEnd, still_bus, store_end, store_pends, unstored_bus, writing}
 use Rattle.probe_access.proofs.BusStoreUnits.StoreEnd.{was_stored, not_stored}
 use Rattle.probe_access.proofs.BusStreamOutcomes.{element_behind}
 use Rattle.probe_access.proofs.BusStreamSites.{at_ran}
@@ -29,37 +29,42 @@ use Rattle.probe_access.proofs.Turns.{unit_passed}
 
 -- ---- where a run stands
 
--- so many were stored, and nothing is under way
-pub record Still (size : Size) (address value : ℕ) (s : Site) (collided : Bool) (n : ℕ) (t : Site) : Type 0 where
+-- the upper half of an element's value
+abbrev pub own_upper : List ℕ → ℕ → ℕ
+own_upper values n = high_half (value_at values n)
+
+-- so many were stored, nothing is under way, and the data holds this upper half
+pub record Still (size : Size) (address : ℕ) (values : List ℕ) (s : Site) (collided : Bool) (n upper : ℕ) (t : Site) : Type 0 where
   pub mid : Site
-  pub each : BusStoredEach size address value s n mid
+  pub each : BusStoredValues size address values s n mid
   pub ready : SiteReady mid
   pub held : ℕ
-  pub whole : joined_halves (low_half value) (high_half held) ≡ value
+  pub upper_is : high_half held ≡ upper
   pub at : AtBus (still_bus size (element_at size address n % 2 ^ 64) held collided) mid t
 
 -- the next is under way
-pub record Storing (size : Size) (address value : ℕ) (s : Site) (collided : Bool) (n : ℕ) (t : Site) : Type 0 where
+pub record Storing (size : Size) (address : ℕ) (values : List ℕ) (s : Site) (collided : Bool) (n : ℕ) (t : Site) : Type 0 where
   pub mid : Site
-  pub each : BusStoredEach size address value s n mid
+  pub each : BusStoredValues size address values s n mid
   pub ready : SiteReady mid
-  pub at : AtBus (writing size (element_at size address n) value collided) mid t
+  pub at : AtBus (writing size (element_at size address n) (value_at values n) collided) mid t
 
 -- the next was refused
-pub record Unstored (size : Size) (address value : ℕ) (s : Site) (collided : Bool) (n : ℕ) (t : Site) : Type 0 where
+pub record Unstored (size : Size) (address : ℕ) (values : List ℕ) (s : Site) (collided : Bool) (n : ℕ) (t : Site) : Type 0 where
   pub first : Site
-  pub each : BusStoredEach size address value s n first
+  pub each : BusStoredValues size address values s n first
   pub mid : Site
   pub refused : BusNotStoredOne size (element_at size address n) first mid
   pub ready : SiteReady mid
-  pub at : AtBus (unstored_bus size (element_at size address n) value collided) mid t
+  pub held : ℕ
+  pub at : AtBus (unstored_bus size (element_at size address n) held collided) mid t
 
 -- ---- the access is made
 
-pub data Went (size : Size) (address value : ℕ) (s : Site) (collided : Bool) (n : ℕ) (t : Site) : Type 0 where
-  writes : Storing size address value s collided n t → Went size address value s collided n t
-  still : Still size address value s collided (n + 1) t → Went size address value s collided n t
-  unstored : Unstored size address value s collided n t → Went size address value s collided n t
+pub data Went (size : Size) (address : ℕ) (values : List ℕ) (s : Site) (collided : Bool) (n : ℕ) (t : Site) : Type 0 where
+  writes : Storing size address values s collided n t → Went size address values s collided n t
+  still : Still size address values s collided (n + 1) (own_upper values n) t → Went size address values s collided n t
+  unstored : Unstored size address values s collided n t → Went size address values s collided n t
 
 -- behind these turns
 abbrev put_memory : Size → ℕ → ℕ → List ℕ → Site → Memory
@@ -84,13 +89,14 @@ put_access size address value before mid m is =
     let z : Site = put_site size address value before mid in
     bus_one_access z.unit.bus (put_memory size address value before mid) m before mid z (at_start z) is
 
-stage_end : (size : Size) (address value : ℕ) (s : Site) (collided : Bool) (n : ℕ) (mid t : Site) (before behind : List ℕ)
-    → BusStoredEach size address value s n mid → SiteReady mid
-    → t ≡ at_bus (done_behind before (writing size (element_at size address n) value collided) mid).unit
-    (passed behind (done_site before (writing size (element_at size address n) value collided) mid))
-    → StoreEnd size (element_at size address n) value collided (passed before mid).board.memory → Went size address value s collided n t
-stage_end size address value s collided n mid t before behind each ready is (was_stored done taken makes) =
+stage_end : (size : Size) (address : ℕ) (values : List ℕ) (s : Site) (collided : Bool) (n : ℕ) (mid t : Site) (before behind : List ℕ)
+    → BusStoredValues size address values s n mid → SiteReady mid
+    → t ≡ at_bus (done_behind before (writing size (element_at size address n) (value_at values n) collided) mid).unit
+    (passed behind (done_site before (writing size (element_at size address n) (value_at values n) collided) mid))
+    → StoreEnd size (element_at size address n) (value_at values n) collided (passed before mid).board.memory → Went size address values s collided n t
+stage_end size address values s collided n mid t before behind each ready is (was_stored done taken makes) =
     let a : ℕ = element_at size address n in
+    let value : ℕ = value_at values n in
     let z : Site = put_site size a value before mid in
     Went.still (record {
       mid = z;
@@ -103,14 +109,15 @@ stage_end size address value s collided n mid t before behind each ready is (was
       });
       ready = put_ready size a value before mid ready;
       held = value;
-      whole = value_whole value;
+      upper_is = refl;
       at = subst (λ x. AtBus (still_bus size x value collided) z t) (element_behind size address n) (record {
         harts = behind;
         is = subst (λ (d : BusDone). t ≡ at_bus d.unit (passed behind (accessed d.memory (passed before mid)))) makes is;
       });
     })
-stage_end size address value s collided n mid t before behind each ready is (not_stored why refuses makes) =
+stage_end size address values s collided n mid t before behind each ready is (not_stored why refuses makes) =
     let a : ℕ = element_at size address n in
+    let value : ℕ = value_at values n in
     let z : Site = put_site size a value before mid in
     Went.unstored (record {
       first = mid;
@@ -124,47 +131,49 @@ stage_end size address value s collided n mid t before behind each ready is (not
         access = put_access size a value before mid unchanged (after_store_refused (passed before mid).board.memory a size value why refuses);
       };
       ready = put_ready size a value before mid ready;
+      held = value;
       at = record {
         harts = behind;
         is = subst (λ (d : BusDone). t ≡ at_bus d.unit (passed behind (accessed d.memory (passed before mid)))) makes is;
       };
     })
 
-pub stage_went : (size : Size) (address value : ℕ) (s : Site) (collided : Bool) (n : ℕ) (mid t : Site) → BusStoredEach size address value s n mid
-    → SiteReady mid → BusStage (writing size (element_at size address n) value collided) mid t → Went size address value s collided n t
-stage_went size address value s collided n mid t each ready (waits harts is) =
+pub stage_went : (size : Size) (address : ℕ) (values : List ℕ) (s : Site) (collided : Bool) (n : ℕ) (mid t : Site) → BusStoredValues size address values s n mid
+    → SiteReady mid → BusStage (writing size (element_at size address n) (value_at values n) collided) mid t → Went size address values s collided n t
+stage_went size address values s collided n mid t each ready (waits harts is) =
     Went.writes (record { mid = mid; each = each; ready = ready; at = record { harts = harts; is = is } })
-stage_went size address value s collided n mid t each ready (made before behind is) =
-    stage_end size address value s collided n mid t before behind each ready is
-    (store_end size (element_at size address n) value collided (passed before mid).board.memory)
+stage_went size address values s collided n mid t each ready (made before behind is) =
+    stage_end size address values s collided n mid t before behind each ready is
+    (store_end size (element_at size address n) (value_at values n) collided (passed before mid).board.memory)
 
 -- ---- deeds
 
-pub storing_ran : (size : Size) (address value : ℕ) (s : Site) (collided : Bool) (n : ℕ) (x : Site) (ds : List Deed)
-    → Storing size address value s collided n x → Went size address value s collided n (ran ds x)
-storing_ran size address value s collided n x ds w =
-    let p : BusUnit = writing size (element_at size address n) value collided in
-    stage_went size address value s collided n w.mid (ran ds x) w.each w.ready
-    (stage_ran p w.mid ds x (works_ready w.mid w.ready) (store_pends size (element_at size address n) value collided) (waits w.at.harts w.at.is))
+pub storing_ran : (size : Size) (address : ℕ) (values : List ℕ) (s : Site) (collided : Bool) (n : ℕ) (x : Site) (ds : List Deed)
+    → Storing size address values s collided n x → Went size address values s collided n (ran ds x)
+storing_ran size address values s collided n x ds w =
+    let p : BusUnit = writing size (element_at size address n) (value_at values n) collided in
+    stage_went size address values s collided n w.mid (ran ds x) w.each w.ready
+    (stage_ran p w.mid ds x (works_ready w.mid w.ready) (store_pends size (element_at size address n) (value_at values n) collided) (waits w.at.harts w.at.is))
 
-pub still_ran : (size : Size) (address value : ℕ) (s : Site) (collided : Bool) (n : ℕ) (x : Site) (ds : List Deed)
-    → Still size address value s collided n x → Still size address value s collided n (ran ds x)
-still_ran size address value s collided n x ds r = record {
+pub still_ran : (size : Size) (address : ℕ) (values : List ℕ) (s : Site) (collided : Bool) (n upper : ℕ) (x : Site) (ds : List Deed)
+    → Still size address values s collided n upper x → Still size address values s collided n upper (ran ds x)
+still_ran size address values s collided n upper x ds r = record {
   mid = r.mid;
   each = r.each;
   ready = r.ready;
   held = r.held;
-  whole = r.whole;
+  upper_is = r.upper_is;
   at = at_ran (still_bus size (element_at size address n % 2 ^ 64) r.held collided) r.mid x ds r.ready refl r.at;
 }
 
-pub unstored_ran : (size : Size) (address value : ℕ) (s : Site) (collided : Bool) (n : ℕ) (x : Site) (ds : List Deed)
-    → Unstored size address value s collided n x → Unstored size address value s collided n (ran ds x)
-unstored_ran size address value s collided n x ds r = record {
+pub unstored_ran : (size : Size) (address : ℕ) (values : List ℕ) (s : Site) (collided : Bool) (n : ℕ) (x : Site) (ds : List Deed)
+    → Unstored size address values s collided n x → Unstored size address values s collided n (ran ds x)
+unstored_ran size address values s collided n x ds r = record {
   first = r.first;
   each = r.each;
   mid = r.mid;
   refused = r.refused;
   ready = r.ready;
-  at = at_ran (unstored_bus size (element_at size address n) value collided) r.mid x ds r.ready refl r.at;
+  held = r.held;
+  at = at_ran (unstored_bus size (element_at size address n) r.held collided) r.mid x ds r.ready refl r.at;
 }

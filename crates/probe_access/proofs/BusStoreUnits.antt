@@ -78,14 +78,32 @@ pub store_low : (size : Size) (old value address : ℕ)
     → sbaddress0_written (low_half address) (still_bus size (upper_put old address) value false) ≡ still_bus size address value false
 store_low size old value address = ap (λ a. still_bus size a value false) (halves_put old address)
 
-pub store_upper : (size : Size) (address old value : ℕ)
-    → sbdata1_written (high_half value) (still_bus size address old false) ≡ still_bus size address (upper_put old value) false
-store_upper size address old value = refl
+-- an upper half of the data, with the lower one as it was
+abbrev pub upper_set : ℕ → ℕ → ℕ
+upper_set held upper = joined_halves (low_half held) upper
+
+pub upper_is_set : (held upper : ℕ) → high_half (upper_set held upper) ≡ upper
+upper_is_set held upper = omega arith
+
+pub store_upper : (size : Size) (address held upper : ℕ) (collided : Bool)
+    → sbdata1_written upper (still_bus size address held collided) ≡ still_bus size address (upper_set held upper) collided
+store_upper size address held upper collided = refl
+
+pub unstored_upper : (size : Size) (address held upper : ℕ) (collided : Bool)
+    → sbdata1_written upper (unstored_bus size address held collided) ≡ unstored_bus size address (upper_set held upper) collided
+unstored_upper size address held upper collided = refl
+
+pub writing_upper : (size : Size) (address value upper : ℕ) (collided : Bool)
+    → sbdata1_written upper (writing size address value collided) ≡ writing size address value true
+writing_upper size address value upper collided = refl
 
 -- ---- the lower half starts each access
 
 pub value_whole : (value : ℕ) → joined_halves (low_half value) (high_half value) ≡ value
 value_whole value = omega arith
+
+pub value_with : (held value : ℕ) → high_half held ≡ high_half value → joined_halves (low_half value) (high_half held) ≡ value
+value_with held value is = ap (λ h. joined_halves (low_half value) h) is ∙ value_whole value
 
 write_starts : (size : Size) (address value : ℕ) → is_aligned address size ≡ true
     → bus_started Write (still_bus size address value false) ≡ writing size address value false

@@ -1,5 +1,5 @@
 -- What the faults of a run of loads by the system bus follow, and what they leave.
-use Rattle.std.proofs.Common.{◌≡◌, ◌∙◌, ◌≤◌, ◌<◌, ◌+◌, ◌*◌, ◌++◌, ◌^◌, ℕ, List, [], ◌∷◌, map, true, Option, sym, ap, subst, inl, append_assoc, arith}
+use Rattle.std.proofs.Common.{◌≡◌, ◌∙◌, ◌≤◌, ◌<◌, ◌+◌, ◌*◌, ◌++◌, ◌^◌, ℕ, List, [], ◌∷◌, map, true, false, Option, sym, ap, subst, inl, append_assoc, arith}
 use Rattle.rv_model.specs.declared.size.Size.{Size}
 use Rattle.rv_model.specs.Memory.{is_aligned}
 use Rattle.rv_model.specs.Size.{count_of}
@@ -8,15 +8,17 @@ use Rattle.debug_model.specs.Told.{Far, IsReady}
 use Rattle.probe_access.specs.declared.fault.AccessFault.{AccessFault}
 use Rattle.probe_access.specs.declared.fault.AccessFault.TheVariants as access_fault
 use Rattle.probe_access.specs.declared.odd.OddStatus.{OddStatus}
+use Rattle.debug_model.specs.Addresses.{sbcs_address}
 use Rattle.probe_run.specs.Acts.{Act, Did, Tells, tells}
+use Rattle.probe_run.specs.Acts.Act.{Put}
 use Rattle.probe_run.specs.Acts.Did.{nothing}
 use Rattle.probe_run.proofs.ActLemmas.{did_list, did_then}
 use Rattle.probe_access.specs.Accesses.{IfMemory}
 use Rattle.probe_access.specs.BusBlockRuns.{BusCauses, BusReported, BusReportedOddly, RunRefused}
 use Rattle.probe_access.specs.BusBlocks.{BusBlockLoadCut, BusBlockLoadLeft}
 use Rattle.probe_access.specs.BusRuns.{BusPollFailed, BusPolled, bus_error, bus_poll}
-use Rattle.probe_access.specs.BusStreams.{FrontRead, RunFailed, RunFell, RunOddly, Stopped, found_acts}
-use Rattle.probe_access.specs.BusStreams.RunFailed.{in_start, in_front, in_stop, in_last, in_polls, in_finding}
+use Rattle.probe_access.specs.BusStreams.{FrontRead, Ran, RunFailed, RunFell, RunOddly, Stopped, found_acts, running}
+use Rattle.probe_access.specs.BusStreams.RunFailed.{in_start, in_front, in_end, in_polls, in_finding}
 use Rattle.probe_access.specs.Cuts.{IfCut, Leaves}
 use Rattle.probe_access.proofs.BlockCauses.{Calls, calls, calls_then}
 use Rattle.probe_access.proofs.BusBlockCauses.{bus_causes_behind, ran_calls}
@@ -48,21 +50,17 @@ failed_causes size address count old_count new_count old new e later (in_front n
     subst (λ (x : AccessFault). BusCauses old_count new_count old new x) (sym is)
     (bus_causes_behind old begun new (calls _ old begun did) old_count old_count new_count (access_fault.Dmi why) (omega arith) later
     (b.acts, b.failed, b.broke))
-failed_causes size address count old_count new_count old new e later (in_stop front read r why is b) =
+failed_causes size address count old_count new_count old new e later (in_end front read r why is b) =
     subst (λ (x : AccessFault). BusCauses old_count new_count old new x) (sym is)
     (bus_causes_behind old read new (front_calls size address count front old read r) old_count old_count new_count (access_fault.Dmi why) (omega arith)
     later (b.acts, b.failed, b.broke))
-failed_causes size address count old_count new_count old new e later (in_last front read stopped r did why is b) =
+failed_causes size address count old_count new_count old new e later (in_polls front values shown read mid r p b) =
+    bus_causes_behind old mid new (calls_then old read mid (front_calls size address count front old read r) (calls _ read mid p.did)) old_count old_count
+    new_count e (omega arith) later (poll_causes old_count new_count mid new e b)
+failed_causes size address count old_count new_count old new e later (in_finding read polled last all r why is b) =
     subst (λ (x : AccessFault). BusCauses old_count new_count old new x) (sym is)
-    (bus_causes_behind old stopped new (calls_then old read stopped (front_calls size address count front old read r) (calls _ read stopped did)) old_count
-    old_count new_count (access_fault.Dmi why) (omega arith) later (b.acts, b.failed, b.broke))
-failed_causes size address count old_count new_count old new e later (in_polls read mid all r b) =
-    bus_causes_behind old mid new (ran_calls size address read old mid r) old_count old_count new_count e (omega arith) later
-    (poll_causes old_count new_count mid new e b)
-failed_causes size address count old_count new_count old new e later (in_finding read mid polled last all r p why is b) =
-    subst (λ (x : AccessFault). BusCauses old_count new_count old new x) (sym is)
-    (bus_causes_behind old polled new (calls_then old mid polled (ran_calls size address read old mid r) (calls _ mid polled p.did)) old_count old_count
-    new_count (access_fault.Dmi why) (omega arith) later (b.acts, b.failed, b.broke))
+    (bus_causes_behind old polled new (ran_calls size address last read old polled r) old_count old_count new_count (access_fault.Dmi why) (omega arith)
+    later (b.acts, b.failed, b.broke))
 
 -- ---- what the last poll showed
 
@@ -75,53 +73,70 @@ polled_then last old mid polled new c p rest did =
     (did_then c.acts old mid c.did ((map bus_poll p.words ++ bus_poll last ∷ []) ++ rest) new
     (did_then (map bus_poll p.words ++ bus_poll last ∷ []) mid polled p.did rest new did))
 
+-- the calls of a run in front of its last poll
+record InFront (last : ℕ) (old new : Tells) : Type 0 where
+  front : List Act
+  did : Did old (front ++ bus_poll last ∷ []) new
+
+last_poll : (size : Size) (address last : ℕ) (read : List ℕ) (old new : Tells) → Ran size address read last old new → InFront last old new
+last_poll size address last read old new r =
+    let e = r.ends in
+    let words : List Act = Put sbcs_address (running false size) ∷ e.acts in
+    let c : Calls old r.read = calls_then old r.begun r.read (calls _ old r.begun r.starts) (calls _ r.begun r.read r.first.did) in
+    record {
+      front = c.acts ++ (words ++ map bus_poll e.words);
+      did = did_list (c.acts ++ (words ++ (map bus_poll e.words ++ bus_poll last ∷ []))) ((c.acts ++ (words ++ map bus_poll e.words)) ++ bus_poll last ∷ [])
+          old new
+          (ap (λ xs. c.acts ++ xs) (sym (append_assoc words (map bus_poll e.words) (bus_poll last ∷ [])))
+          ∙ sym (append_assoc c.acts (words ++ map bus_poll e.words) (bus_poll last ∷ [])))
+          (did_then c.acts old r.read c.did _ new e.did);
+    }
+
+poll_then : (last : ℕ) (old polled new : Tells) → (i : InFront last old polled) → (rest : List Act) → Did polled rest new
+    → Did old (i.front ++ bus_poll last ∷ rest) new
+poll_then last old polled new i rest did =
+    did_list ((i.front ++ bus_poll last ∷ []) ++ rest) (i.front ++ bus_poll last ∷ rest) old new (append_assoc i.front (bus_poll last ∷ []) rest)
+    (did_then (i.front ++ bus_poll last ∷ []) old polled i.did rest new did)
+
 stopped_reported : (size : Size) (address count last : ℕ) (values : List ℕ) (old new : Tells) → Stopped size address count last values old new
     → bus_error last ≡ 2 → BusReported old new
 stopped_reported size address count last values old new s outside =
-    let c : Calls old s.ran = ran_calls size address s.read old s.ran s.runs in
+    let i : InFront last old s.polled = last_poll size address last s.read old s.polled s.runs in
     record {
-      front = c.acts ++ map bus_poll s.shows.words;
+      front = i.front;
       last = last;
       rest = found_acts s.low s.high s.data0 s.data1;
-      idle = s.shows.idle;
+      idle = s.runs.ends.idle;
       outside = outside;
-      did = polled_then last old s.ran s.polled new c s.shows (found_acts s.low s.high s.data0 s.data1) s.found;
+      did = poll_then last old s.polled new i (found_acts s.low s.high s.data0 s.data1) s.found;
     }
 
 oddly_causes : (size : Size) (address count : ℕ) (shown : OddStatus) (old new : Tells) → RunOddly size address count shown old new
     → BusReportedOddly shown old new
 oddly_causes size address count shown old new (RunOddly.other last read is r none other) =
-    let c : Calls old r.mid = ran_calls size address read old r.mid r.ran in
-    record {
-      word = last;
-      is = is;
-      front = c.acts ++ map bus_poll r.polled.words;
-      rest = [];
-      idle = r.polled.idle;
-      some = inl none;
-      did = polled_then last old r.mid new new c r.polled [] nothing;
-    }
+    let i : InFront last old new = last_poll size address last read old new r.ran in
+    record { word = last; is = is; front = i.front; rest = []; idle = r.ran.ends.idle; some = inl none; did = i.did }
 oddly_causes size address count shown old new (RunOddly.misplaced last place value read mid is r some found lost) =
-    let c : Calls old r.mid = ran_calls size address read old r.mid r.ran in
+    let i : InFront last old mid = last_poll size address last read old mid r.ran in
     record {
       word = last;
       is = is;
-      front = c.acts ++ map bus_poll r.polled.words;
+      front = i.front;
       rest = found_acts found.low found.high found.data0 found.data1;
-      idle = r.polled.idle;
+      idle = r.ran.ends.idle;
       some = some;
-      did = polled_then last old r.mid mid new c r.polled (found_acts found.low found.high found.data0 found.data1) found.did;
+      did = poll_then last old mid new i (found_acts found.low found.high found.data0 found.data1) found.did;
     }
 oddly_causes size address count shown old new (RunOddly.all_there last values is s outside all) =
-    let c : Calls old s.ran = ran_calls size address s.read old s.ran s.runs in
+    let i : InFront last old s.polled = last_poll size address last s.read old s.polled s.runs in
     record {
       word = last;
       is = is;
-      front = c.acts ++ map bus_poll s.shows.words;
+      front = i.front;
       rest = found_acts s.low s.high s.data0 s.data1;
-      idle = s.shows.idle;
+      idle = s.runs.ends.idle;
       some = inl (two_not_zero (bus_error last) outside);
-      did = polled_then last old s.ran s.polled new c s.shows (found_acts s.low s.high s.data0 s.data1) s.found;
+      did = poll_then last old s.polled new i (found_acts s.low s.high s.data0 s.data1) s.found;
     }
 
 -- ---- by the fault

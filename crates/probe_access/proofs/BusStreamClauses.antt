@@ -8,15 +8,17 @@ use Rattle.debug_model.specs.Addresses.{sbcs_address}
 use Rattle.debug_model.specs.Dmi.{DmiComing}
 use Rattle.debug_model.specs.Scan.{WhereTold}
 use Rattle.debug_model.specs.Told.{Far, IsReady, SiteReady, site_of}
-use Rattle.probe_run.specs.Acts.{Did, Tells, tells}
+use Rattle.debug_model.specs.Module.{Site}
+use Rattle.probe_run.specs.Acts.{Act, Did, Tells, tells}
 use Rattle.probe_run.specs.Acts.Act.{Put}
 use Rattle.probe_access.specs.Blocks.{element_at}
 use Rattle.probe_access.specs.BusBlocks.{BusBlockLoadRefused, BusBlockLoadedAt}
-use Rattle.probe_access.specs.BusRuns.{BusPolled, bus_collided, bus_error, bus_poll, cut_to}
-use Rattle.probe_access.specs.BusStreams.{FrontRead, Handed, MoreRead, Ran, RanThrough, Stopped, found_acts, run_started, running}
+use Rattle.probe_access.specs.BusRuns.{bus_collided, bus_error, bus_poll, cut_to}
+use Rattle.probe_access.specs.BusStreams.{ElementsRead, EndPolled, EndRead, FrontRead, Handed, MoreRead, Ran, RanThrough, Stopped, found_acts}
+use Rattle.probe_access.specs.BusStreams.{run_started, running}
 use Rattle.probe_access.specs.RegisterAccess.{joined}
-use Rattle.probe_access.proofs.Along.{AtSites, did_sites, did_untold}
-use Rattle.probe_access.proofs.BusStreamEnds.{AllLoaded, AllRefused, Ended, done_ended, early_loaded, refused_left, rest_loaded}
+use Rattle.probe_access.proofs.Along.{AtSites, SiteActs, Split, did_sites, did_untold, site_acts-split}
+use Rattle.probe_access.proofs.BusStreamEnds.{AllLoaded, AllRefused, Ended, done_ended, early_loaded, polls_done, refused_left, rest_loaded}
 use Rattle.probe_access.proofs.BusStreamSteps.{elements_going, going_first, going_stops, last_done}
 use Rattle.probe_access.proofs.BusStreamTold.{Done, Going}
 
@@ -64,57 +66,62 @@ front_at size address count front f coming read ready aligned ends r =
     front_by size address count front f r.begun read aligned ends r.one_less
     (begun_at size address count f coming r.begun ready aligned (let e : length front + 1 ≡ count = r.one_less in omega (arith, e)) r.starts) r.first
 
-pub record StoppedAt (size : Size) (address count : ℕ) (front : List ℕ) (f : Far) (told : Option Far) : Type 0 where
-  pub far : Far
-  pub is : told ≡ Some far
-  pub going : Going size address count (site_of f) false front (site_of far)
-
-pub stopped_at : (size : Size) (address count : ℕ) (front : List ℕ) (f : Far) (read stopped : Tells) → FrontAt size address count front f read.far
-    → Did read (Put sbcs_address (running false size) ∷ []) stopped → StoppedAt size address count front f stopped.far
-stopped_at size address count front f read stopped g did =
-    let p : AtSites (Put sbcs_address (running false size) ∷ []) g.far stopped.far = did_sites read _ stopped g.far did g.is in
-    record { far = p.far; is = p.is; going = going_stops size address count (site_of f) front (site_of g.far) (site_of p.far) g.going p.acts_are }
-
-last_at : (size : Size) (address count : ℕ) (front values : List ℕ) (f : Far) (stopped new : Tells) → StoppedAt size address count front f stopped.far
-    → MoreRead size 1 front values stopped new → DoneAt size address count values f new.far
-last_at size address count front values f stopped new g more =
-    let p : AtSites more.acts g.far new.far = did_sites stopped more.acts new g.far more.did g.is in
-    record {
-      far = p.far;
-      is = p.is;
-      done = subst (λ xs. Done size address count (site_of f) xs (site_of p.far)) (sym more.joins)
-          (last_done size address count (site_of f) front more.values more.acts (site_of g.far) (site_of p.far) more.count more.read g.going p.acts_are);
-    }
-
-pub run_front : (size : Size) (address count : ℕ) (read : List ℕ) (old new : Tells) → length read ≡ count → (r : Ran size address read old new)
-    → FrontRead size address count r.front old r.read
-run_front size address count read old new all r = record {
-  one_less = let e : length (r.front ++ r.last.values) ≡ length r.front + length r.last.values = length-append r.front r.last.values in
-      let one : length r.last.values ≡ 1 = r.last.count in let j : length read ≡ length (r.front ++ r.last.values) = ap length r.last.joins in
+pub run_front : (size : Size) (address count last : ℕ) (read : List ℕ) (old new : Tells) → length read ≡ count
+    → (r : Ran size address read last old new) → FrontRead size address count r.front old r.read
+run_front size address count last read old new all r = record {
+  one_less = let e : length (r.front ++ r.ends.values) ≡ length r.front + length r.ends.values = length-append r.front r.ends.values in
+      let one : length r.ends.values ≡ 1 = r.ends.count in let j : length read ≡ length (r.front ++ r.ends.values) = ap length r.ends.joins in
       omega (arith, e, one, j, all);
   begun = r.begun;
   starts = r.starts;
   first = r.first;
 }
 
-pub done_at : (size : Size) (address count : ℕ) (read : List ℕ) (f : Far) (coming : Option DmiComing) (new : Tells) → SiteReady (site_of f)
-    → is_aligned address size ≡ true → address + count * count_of size ≤ 2 ^ 64 → length read ≡ count → Ran size address read (tells (Some f) coming) new
-    → DoneAt size address count read f new.far
-done_at size address count read f coming new ready aligned ends all r =
-    last_at size address count r.front read f r.stopped new
-    (stopped_at size address count r.front f r.read r.stopped
-    (front_at size address count r.front f coming r.read ready aligned ends
-    (run_front size address count read (tells (Some f) coming) new all r)) r.stops) r.last
+-- behind the last element's words
+pub done_site : (size : Size) (address count : ℕ) (front values : List ℕ) (acts : List Act) (s x t : Site) → length values ≡ 1
+    → ElementsRead size values acts → Going size address count s true front x → SiteActs (Put sbcs_address (running false size) ∷ acts) x t
+    → Done size address count s (front ++ values) t
+done_site size address count front values acts s x t one read g p =
+    last_done size address count s front values acts p.0 t one read
+    (going_stops size address count s front x p.0 g (p.0, p.1, refl)) p.2
 
-pub ended_at : (size : Size) (address count : ℕ) (read : List ℕ) (last : ℕ) (f : Far) (ran polled : Tells) → DoneAt size address count read f ran.far
-    → BusPolled last ran polled → EndedAt size address count read last f polled.far
-ended_at size address count read last f ran polled d p =
-    let q : AtSites (map bus_poll p.words ++ bus_poll last ∷ []) d.far polled.far = did_sites ran _ polled d.far p.did d.is in
+pub end_at : (size : Size) (address count shown : ℕ) (front values : List ℕ) (f : Far) (read mid : Tells) → FrontAt size address count front f read.far
+    → EndRead size front values shown read mid → DoneAt size address count values f mid.far
+end_at size address count shown front values f read mid g e =
+    let words : List Act = Put sbcs_address (running false size) ∷ e.acts in
+    let p : AtSites (words ++ bus_poll shown ∷ []) g.far mid.far = did_sites read _ mid g.far e.did g.is in
+    let q : Split words (bus_poll shown ∷ []) (site_of g.far) (site_of p.far) =
+    site_acts-split words (bus_poll shown ∷ []) (site_of g.far) (site_of p.far) p.acts_are in
     record {
-      far = q.far;
-      is = q.is;
-      ended = done_ended size address count (site_of f) read p.words last (site_of d.far) (site_of q.far) p.idle d.done q.acts_are;
+      far = p.far;
+      is = p.is;
+      done = subst (λ xs. Done size address count (site_of f) xs (site_of p.far)) (sym e.joins)
+          (polls_done size address count (site_of f) (front ++ e.values) (shown ∷ []) q.mid (site_of p.far)
+          (done_site size address count front e.values e.acts (site_of f) (site_of g.far) q.mid e.count e.read g.going q.first) q.rest);
     }
+
+pub polled_at : (size : Size) (address count last : ℕ) (front values : List ℕ) (f : Far) (read new : Tells) → FrontAt size address count front f read.far
+    → EndPolled size front values last read new → EndedAt size address count values last f new.far
+polled_at size address count last front values f read new g e =
+    let words : List Act = Put sbcs_address (running false size) ∷ e.acts in
+    let looks : List Act = map bus_poll e.words ++ bus_poll last ∷ [] in
+    let p : AtSites (words ++ looks) g.far new.far = did_sites read _ new g.far e.did g.is in
+    let q : Split words looks (site_of g.far) (site_of p.far) = site_acts-split words looks (site_of g.far) (site_of p.far) p.acts_are in
+    record {
+      far = p.far;
+      is = p.is;
+      ended = subst (λ xs. Ended size address count (site_of f) xs last (site_of p.far)) (sym e.joins)
+          (done_ended size address count (site_of f) (front ++ e.values) e.words last q.mid (site_of p.far) e.idle
+          (done_site size address count front e.values e.acts (site_of f) (site_of g.far) q.mid e.count e.read g.going q.first) q.rest);
+    }
+
+pub ended_at : (size : Size) (address count last : ℕ) (read : List ℕ) (f : Far) (coming : Option DmiComing) (new : Tells) → SiteReady (site_of f)
+    → is_aligned address size ≡ true → address + count * count_of size ≤ 2 ^ 64 → length read ≡ count
+    → Ran size address read last (tells (Some f) coming) new → EndedAt size address count read last f new.far
+ended_at size address count last read f coming new ready aligned ends all r =
+    polled_at size address count last r.front read f r.read new
+    (front_at size address count r.front f coming r.read ready aligned ends
+    (run_front size address count last read (tells (Some f) coming) new all r)) r.ends
 
 -- ---- what is loaded
 
@@ -127,11 +134,10 @@ pub told_loaded : (size : Size) (address : ℕ) (values : List ℕ) (f g : Far) 
 told_loaded size address values f g new is a =
     record { loaded = record { far = g; is = is; each = a.each }; ready = subst (λ (o : Option Far). IsReady o) (sym is) a.ready }
 
-ran_untold : (size : Size) (address : ℕ) (read : List ℕ) (coming : Option DmiComing) (new : Tells) → Ran size address read (tells None coming) new
+ran_untold : (size : Size) (address last : ℕ) (read : List ℕ) (coming : Option DmiComing) (new : Tells) → Ran size address read last (tells None coming) new
     → new.far ≡ None
-ran_untold size address read coming new r =
-    did_untold r.stopped _ new r.last.did (did_untold r.read _ r.stopped r.stops
-    (did_untold r.begun _ r.read r.first.did (did_untold (tells None coming) _ r.begun r.starts refl)))
+ran_untold size address last read coming new r =
+    did_untold r.read _ new r.ends.did (did_untold r.begun _ r.read r.first.did (did_untold (tells None coming) _ r.begun r.starts refl))
 
 pub none_loaded : (size : Size) (address : ℕ) (values : List ℕ) (new : Option Far) → new ≡ None → RunLoaded size address values None new
 none_loaded size address values new is = record { loaded = is; ready = subst (λ (o : Option Far). IsReady o) (sym is) tt }
@@ -154,11 +160,11 @@ pub ran_through : (size : Size) (address count : ℕ) (values : List ℕ) (far :
     → is_aligned address size ≡ true → address + count * count_of size ≤ 2 ^ 64 → length values ≡ count
     → RanThrough size address values (tells far coming) new → RunLoaded size address values far new.far
 ran_through size address count values None coming new ready aligned ends all r =
-    none_loaded size address values new.far (did_untold r.mid _ new r.ends.polled.did (ran_untold size address values coming r.mid r.ran))
+    none_loaded size address values new.far (ran_untold size address r.last values coming new r.ran)
 ran_through size address count values (Some f) coming new ready aligned ends all r =
-    let e : EndedAt size address count values r.ends.last f new.far =
-    ended_at size address count values r.ends.last f r.mid new (done_at size address count values f coming r.mid ready aligned ends all r.ran) r.ends.polled in
-    through_by size address count values r.ends.last f new.far r.ends.fine r.ends.alone e e.ended
+    let e : EndedAt size address count values r.last f new.far =
+    ended_at size address count r.last values f coming new ready aligned ends all r.ran in
+    through_by size address count values r.last f new.far r.fine r.alone e e.ended
 
 record FoundValues (size : Size) (address low high data0 data1 : ℕ) (read values : List ℕ) : Type 0 where
   place : joined low high ≡ element_at size address (length values) % 2 ^ 64
@@ -189,7 +195,7 @@ early_by size address count last values read f polled new low high data0 data1 e
 stopped_untold : (size : Size) (address count last : ℕ) (values : List ℕ) (coming : Option DmiComing) (new : Tells)
     → Stopped size address count last values (tells None coming) new → new.far ≡ None
 stopped_untold size address count last values coming new s =
-    did_untold s.polled _ new s.found (did_untold s.ran _ s.polled s.shows.did (ran_untold size address s.read coming s.ran s.runs))
+    did_untold s.polled _ new s.found (ran_untold size address last s.read coming s.polled s.runs)
 
 pub ran_on : (size : Size) (address count last : ℕ) (values : List ℕ) (far : Option Far) (coming : Option DmiComing) (new : Tells) → IsReady far
     → is_aligned address size ≡ true → address + count * count_of size ≤ 2 ^ 64 → count ≤ 512
@@ -199,7 +205,7 @@ ran_on size address count last values None coming new ready aligned ends few s f
     none_loaded size address values new.far (stopped_untold size address count last values coming new s)
 ran_on size address count last values (Some f) coming new ready aligned ends few s fine early =
     let e : EndedAt size address count s.read last f s.polled.far =
-    ended_at size address count s.read last f s.ran s.polled (done_at size address count s.read f coming s.ran ready aligned ends s.all s.runs) s.shows in
+    ended_at size address count last s.read f coming s.polled ready aligned ends s.all s.runs in
     early_by size address count last values s.read f s.polled new s.low s.high s.data0 s.data1 ends few s.all fine early e s.found
     (found_of size address count last values (tells (Some f) coming) new s) e.ended
 
@@ -241,6 +247,6 @@ run_refused size address count last values None coming new ready aligned ends fe
     record { refused = end; ready = subst (λ (o : Option Far). IsReady o) (sym end) tt; below = end }
 run_refused size address count last values (Some f) coming new ready aligned ends few s outside =
     let e : EndedAt size address count s.read last f s.polled.far =
-    ended_at size address count s.read last f s.ran s.polled (done_at size address count s.read f coming s.ran ready aligned ends s.all s.runs) s.shows in
+    ended_at size address count last s.read f coming s.polled ready aligned ends s.all s.runs in
     refused_by size address count last values s.read f s.polled new s.low s.high s.data0 s.data1 ends few s.all outside e s.found
     (found_of size address count last values (tells (Some f) coming) new s) e.ended

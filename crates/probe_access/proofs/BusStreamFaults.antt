@@ -1,10 +1,11 @@
 -- What a run of loads by the system bus leaves of a told chip where it broke off, and what its faults follow.
-use Rattle.std.proofs.Common.{◌≡◌, ◌⊎◌, ◌≤◌, ◌<◌, ◌+◌, ◌*◌, ◌^◌, ℕ, List, [], ◌∷◌, map, true, false, Option, Some, None, refl, sym, subst, inl, inr}
+use Rattle.std.proofs.Common.{◌≡◌, ◌⊎◌, ◌≤◌, ◌<◌, ◌+◌, ◌*◌, ◌^◌, ◌++◌, ℕ, List, [], ◌∷◌, map, true, false, Option, Some, None, refl, sym, subst, inl, inr}
 use Rattle.rv_model.specs.declared.size.Size.{Size}
 use Rattle.rv_model.specs.Memory.{is_aligned}
 use Rattle.rv_model.specs.Size.{count_of}
 use Rattle.debug_model.specs.Addresses.{sbaddress0_address, sbaddress1_address, sbcs_address}
 use Rattle.debug_model.specs.declared.dmi.DmiFault.{DmiFault}
+use Rattle.debug_model.specs.declared.dmi_op.DmiOp.{DmiOp}
 use Rattle.debug_model.specs.declared.dmi_op.DmiOp.TheVariants.{Read, Write}
 use Rattle.debug_model.specs.declared.sberror.Sberror.TheVariants.{Fine}
 use Rattle.debug_model.specs.Commands.{high_half, low_half}
@@ -24,21 +25,21 @@ use Rattle.probe_access.specs.BusBlocks.BusLoadedEach.{nothing as none_loaded}
 use Rattle.probe_access.specs.BusRuns.{BusPollBegun, BusPollFailed, Starting, bus_poll}
 use Rattle.probe_access.specs.BusRuns.BusPollBegun.{polls}
 use Rattle.probe_access.specs.BusRuns.Starting.{next}
-use Rattle.probe_access.specs.BusStreams.{Finding, ReadingData, RunFailed, run_started, running}
-use Rattle.probe_access.specs.BusStreams.RunFailed.{in_start, in_front, in_stop, in_last, in_polls, in_finding}
+use Rattle.probe_access.specs.BusStreams.{Ending, Finding, ReadingData, RunFailed, run_started, running}
+use Rattle.probe_access.specs.BusStreams.RunFailed.{in_start, in_front, in_end, in_polls, in_finding}
 use Rattle.probe_access.specs.Cuts.{BusLeftOff, IfCut, Leaves, LoadLeaves}
 use Rattle.probe_access.specs.Faults.{Among, BrokeIn}
-use Rattle.probe_access.proofs.Along.{AtSites, did_sites}
+use Rattle.probe_access.proofs.Along.{AtSites, SiteActs, did_sites}
 use Rattle.probe_access.proofs.BusCuts.{Nth, nth_of, write_cut}
 use Rattle.probe_access.proofs.BusCuts.Nth.{here, there}
 use Rattle.probe_access.proofs.BusSites.{AtBus, put_bus}
 use Rattle.probe_access.proofs.BusSites.Writes.{to_sbaddress0, to_sbaddress1, to_sbcs}
 use Rattle.probe_access.proofs.BusStages.{BusStage, start_bus}
-use Rattle.probe_access.proofs.BusStreamClauses.{DoneAt, EndedAt, FrontAt, StoppedAt, begun_at, done_at, ended_at, front_at, stopped_at}
+use Rattle.probe_access.proofs.BusStreamClauses.{DoneAt, EndedAt, FrontAt, begun_at, done_site, end_at, ended_at, front_at}
 use Rattle.probe_access.proofs.BusStreamCuts.{bus_before, done_cut, finding_cut, going_cut, last_cut, reading_cut, stop_cut}
 use Rattle.probe_access.proofs.BusStreamEnds.{done_poll, polls_done}
 use Rattle.probe_access.proofs.BusStreamSites.{at_ran, stage_stands}
-use Rattle.probe_access.proofs.BusStreamSteps.{start_set}
+use Rattle.probe_access.proofs.BusStreamSteps.{going_stops, start_set}
 use Rattle.probe_access.proofs.BusStreamTold.{Done, Going, Last, done_ran, first_at, waited}
 use Rattle.probe_access.proofs.BusStreamUnits.{reading, run_bus, run_high, run_low, run_pends, run_set}
 use Rattle.probe_access.proofs.BusStartCuts.{no_more}
@@ -79,15 +80,13 @@ low_cut size address count s x t ready aligned some at (was_performed result o) 
     (stage_stands size address count s true false [] u.value s t none_loaded ready some
     (subst (λ a. BusStage (reading true size a u.value false) s t) (sym (first_at size address)) stage)))
 
-start_at : (size : Size) (address count old_count new_count : ℕ) (f : Far) (coming : Option DmiComing) (told : Option Far) (why : DmiFault) (front : List Act)
-    (a v : ℕ) → SiteReady (site_of f) → is_aligned address size ≡ true → 0 < count → Nth (run_started size address) front (Put a v)
-    → Broke front (Operation (Write a v)) old_count new_count (tells (Some f) coming) told why → RunCut size address count (site_of f) told
-start_at size address count old_count new_count f coming told why _ _ _ ready aligned some (here _ _) b =
+start_at : (size : Size) (address count : ℕ) (f : Far) (told : Option Far) (front : List Act) (a v : ℕ) → SiteReady (site_of f)
+    → is_aligned address size ≡ true → 0 < count → Nth (run_started size address) front (Put a v) → CutAt front (Write a v) f told
+    → RunCut size address count (site_of f) told
+start_at size address count f told _ _ _ ready aligned some (here _ _) c =
     let s : Site = site_of f in
     let u : BusUnit = s.unit.bus in
     let x : BusUnit = run_bus true size u.address u.value Fine false None in
-    let c : CutAt [] (Write sbcs_address (running true size)) f told =
-    cut_at [] (Write sbcs_address (running true size)) old_count new_count (tells (Some f) coming) told why f refl b in
     record {
       far = c.far;
       is = c.is;
@@ -95,14 +94,11 @@ start_at size address count old_count new_count f coming told why _ _ _ ready al
           (write_cut LoadLeaves sbcs_address (running true size) _ u x s c.mid (site_of c.far) (to_sbcs (running true size)) (works_ready s ready)
           ready.unit.bus.idle (run_set size u ready.unit.bus) refl (subst (λ (y : Site). AtBus u s y) (sym c.acts_are) (at_start s)) c.cut);
     }
-start_at size address count old_count new_count f coming told why _ _ _ ready aligned some (there _ _ _ _ (here _ _)) b =
+start_at size address count f told _ _ _ ready aligned some (there _ _ _ _ (here _ _)) c =
     let s : Site = site_of f in
     let u : BusUnit = s.unit.bus in
     let x : BusUnit = run_bus true size u.address u.value Fine false None in
     let y : BusUnit = run_bus true size (upper_put u.address address) u.value Fine false None in
-    let front : List Act = Put sbcs_address (running true size) ∷ [] in
-    let c : CutAt front (Write sbaddress1_address (high_half address)) f told =
-    cut_at front (Write sbaddress1_address (high_half address)) old_count new_count (tells (Some f) coming) told why f refl b in
     record {
       far = c.far;
       is = c.is;
@@ -112,25 +108,30 @@ start_at size address count old_count new_count f coming told why _ _ _ ready al
           (put_bus sbcs_address (running true size) _ u x s s c.mid (to_sbcs (running true size)) (works_ready s ready) ready.unit.bus.idle
           (run_set size u ready.unit.bus) refl (at_start s) c.acts_are) c.cut);
     }
-start_at size address count old_count new_count f coming told why _ _ _ ready aligned some (there _ _ _ _ (there _ _ _ _ (here _ _))) b =
+start_at size address count f told _ _ _ ready aligned some (there _ _ _ _ (there _ _ _ _ (here _ _))) c =
     let s : Site = site_of f in
-    let front : List Act = Put sbcs_address (running true size) ∷ Put sbaddress1_address (high_half address) ∷ [] in
-    let c : CutAt front (Write sbaddress0_address (low_half address)) f told =
-    cut_at front (Write sbaddress0_address (low_half address)) old_count new_count (tells (Some f) coming) told why f refl b in
     record {
       far = c.far;
       is = c.is;
       left = low_cut size address count s c.mid (site_of c.far) ready aligned some (start_set size address s c.mid ready c.acts_are) c.cut;
     }
-start_at size address count old_count new_count f coming told why _ a v ready aligned some (there _ _ _ _ (there _ _ _ _ (there _ _ front _ n))) b =
+start_at size address count f told _ a v ready aligned some (there _ _ _ _ (there _ _ _ _ (there _ _ front _ n))) c =
     absurd (no_more front (Put a v) n)
 
-start_cut : (size : Size) (address count old_count new_count : ℕ) (f : Far) (coming : Option DmiComing) (told : Option Far) (why : DmiFault)
-    (acts : List Act) (failed : Attempt) → SiteReady (site_of f) → is_aligned address size ≡ true → 0 < count
-    → Starting (run_started size address) acts failed → Broke acts failed old_count new_count (tells (Some f) coming) told why
+start_by : (size : Size) (address count : ℕ) (f : Far) (told : Option Far) (acts : List Act) (op : DmiOp) → SiteReady (site_of f)
+    → is_aligned address size ≡ true → 0 < count → Starting (run_started size address) acts (Operation op) → CutAt acts op f told
     → RunCut size address count (site_of f) told
-start_cut size address count old_count new_count f coming told why _ _ ready aligned some (next front rest a v is) b =
-    start_at size address count old_count new_count f coming told why front a v ready aligned some (nth_of (run_started size address) front rest (Put a v) is) b
+start_by size address count f told _ _ ready aligned some (next front rest a v is) c =
+    start_at size address count f told front a v ready aligned some (nth_of (run_started size address) front rest (Put a v) is) c
+
+start_cut : (size : Size) (address count old_count new_count : ℕ) (f : Far) (coming : Option DmiComing) (told : Option Far) (why : DmiFault)
+    → SiteReady (site_of f) → is_aligned address size ≡ true → 0 < count
+    → BrokeIn (Among (Starting (run_started size address))) old_count new_count (tells (Some f) coming) told why
+    → RunCut size address count (site_of f) told
+start_cut size address count old_count new_count f coming told why ready aligned some b =
+    let c : CutWithin (Starting (run_started size address)) f told =
+    cut_within (Starting (run_started size address)) old_count new_count (tells (Some f) coming) told why f refl b in
+    start_by size address count f told c.acts c.op ready aligned some c.begun c.cut
 
 -- ---- behind it
 
@@ -146,40 +147,6 @@ front_cut size address count number old_count new_count f begun told why aligned
           c.cut.acts_are c.cut.cut;
     }
 
-stopping_nth : (size : Size) (address count : ℕ) (read : List ℕ) (old_count new_count : ℕ) (f : Far) (mid : Tells) (told : Option Far) (why : DmiFault)
-    (front : List Act) (a v : ℕ) → FrontAt size address count read f mid.far → Nth (Put sbcs_address (running false size) ∷ []) front (Put a v)
-    → Broke front (Operation (Write a v)) old_count new_count mid told why → RunCut size address count (site_of f) told
-stopping_nth size address count read old_count new_count f mid told why _ _ _ g (here _ _) b =
-    let c : CutAt [] (Write sbcs_address (running false size)) g.far told =
-    cut_at [] (Write sbcs_address (running false size)) old_count new_count mid told why g.far g.is b in
-    record {
-      far = c.far;
-      is = c.is;
-      left = stop_cut size address count (site_of f) read c.mid (site_of c.far)
-          (subst (λ (y : Site). Going size address count (site_of f) true read y) (sym c.acts_are) g.going) c.cut;
-    }
-stopping_nth size address count read old_count new_count f mid told why _ a v g (there _ _ front _ n) b = absurd (no_more front (Put a v) n)
-
-stopping_cut : (size : Size) (address count : ℕ) (read : List ℕ) (old_count new_count : ℕ) (f : Far) (mid : Tells) (told : Option Far) (why : DmiFault)
-    (acts : List Act) (failed : Attempt) → FrontAt size address count read f mid.far → Starting (Put sbcs_address (running false size) ∷ []) acts failed
-    → Broke acts failed old_count new_count mid told why → RunCut size address count (site_of f) told
-stopping_cut size address count read old_count new_count f mid told why _ _ g (next front rest a v is) b =
-    stopping_nth size address count read old_count new_count f mid told why front a v g
-    (nth_of (Put sbcs_address (running false size) ∷ []) front rest (Put a v) is) b
-
-ending_cut : (size : Size) (address count : ℕ) (read : List ℕ) (old_count new_count : ℕ) (f : Far) (stopped : Tells) (told : Option Far) (why : DmiFault)
-    → StoppedAt size address count read f stopped.far → BrokeIn (Among (ReadingData 1)) old_count new_count stopped told why
-    → RunCut size address count (site_of f) told
-ending_cut size address count read old_count new_count f stopped told why g b =
-    let c : CutWithin (ReadingData 1) g.far told = cut_within (ReadingData 1) old_count new_count stopped told why g.far g.is b in
-    record {
-      far = c.cut.far;
-      is = c.cut.is;
-      left = last_cut size address count (site_of f) read c.acts c.op (site_of g.far) c.cut.mid (site_of c.cut.far) c.begun g.going c.cut.acts_are c.cut.cut;
-    }
-
--- ---- among the polls
-
 poll_site : (size : Size) (address count : ℕ) (s : Site) (read : List ℕ) (x t : Site) → Done size address count s read x → SiteCut (Read sbcs_address) x t
     → BusBlockLoadCut size address count [] s t
 poll_site size address count s read x t d (unperformed k) =
@@ -191,6 +158,30 @@ poll_site size address count s read x t d (was_performed result o) =
     (subst (λ (y : Site). Done size address count s read y) (sym o.is)
     (done_ran size address count s read (operated (Read sbcs_address) z) o.behind
     (done_poll size address count s read z (done_ran size address count s read x o.before d))))
+
+-- in the call that ends it
+ending_site : (size : Size) (address count : ℕ) (front : List ℕ) (acts : List Act) (op : DmiOp) (s x mid t : Site) → Ending size acts (Operation op)
+    → Going size address count s true front x → SiteActs acts x mid → SiteCut op mid t → BusBlockLoadCut size address count [] s t
+ending_site size address count front _ _ s x mid t Ending.stops g p cut =
+    stop_cut size address count s front mid t (subst (λ (y : Site). Going size address count s true front y) (sym p) g) cut
+ending_site size address count front _ _ s x mid t (Ending.reads acts op r) g p cut =
+    last_cut size address count s front acts op p.0 mid t r (going_stops size address count s front x p.0 g (p.0, p.1, refl)) p.2 cut
+ending_site size address count front _ _ s x mid t (Ending.looks values acts one read) g p cut =
+    poll_site size address count s (front ++ values) mid t (done_site size address count front values acts s x mid one read g p) cut
+
+ending_cut : (size : Size) (address count : ℕ) (front : List ℕ) (old_count new_count : ℕ) (f : Far) (read : Tells) (told : Option Far) (why : DmiFault)
+    → FrontAt size address count front f read.far → BrokeIn (Among (Ending size)) old_count new_count read told why
+    → RunCut size address count (site_of f) told
+ending_cut size address count front old_count new_count f read told why g b =
+    let c : CutWithin (Ending size) g.far told = cut_within (Ending size) old_count new_count read told why g.far g.is b in
+    record {
+      far = c.cut.far;
+      is = c.cut.is;
+      left = ending_site size address count front c.acts c.op (site_of f) (site_of g.far) c.cut.mid (site_of c.cut.far) c.begun g.going c.cut.acts_are
+          c.cut.cut;
+    }
+
+-- ---- among the polls
 
 poll_cut : (size : Size) (address count : ℕ) (read : List ℕ) (old_count new_count : ℕ) (f : Far) (mid : Tells) (told : Option Far) (why : DmiFault)
     (acts : List Act) (failed : Attempt) → DoneAt size address count read f mid.far → BusPollBegun acts failed
@@ -246,25 +237,21 @@ run_cut : (size : Size) (address count : ℕ) (f : Far) (coming : Option DmiComi
     → RunFailed size address count old_count new_count (tells (Some f) coming) new e → IfCut (RunCut size address count (site_of f) new.far) e
 run_cut size address count f coming new old_count new_count e ready aligned ends some (in_start why is b) =
     by_fault (RunCut size address count (site_of f) new.far) e why is
-    (start_cut size address count old_count new_count f coming new.far why b.acts b.failed ready aligned some b.begun b.broke)
+    (start_cut size address count old_count new_count f coming new.far why ready aligned some b)
 run_cut size address count f coming new old_count new_count e ready aligned ends some (in_front number below begun did why is b) =
     by_fault (RunCut size address count (site_of f) new.far) e why is
     (front_cut size address count number old_count new_count f begun new.far why aligned ends below
     (begun_at size address count f coming begun ready aligned some did) b)
-run_cut size address count f coming new old_count new_count e ready aligned ends some (in_stop front read r why is b) =
+run_cut size address count f coming new old_count new_count e ready aligned ends some (in_end front read r why is b) =
     by_fault (RunCut size address count (site_of f) new.far) e why is
-    (stopping_cut size address count front old_count new_count f read new.far why b.acts b.failed
-    (front_at size address count front f coming read ready aligned ends r) b.begun b.broke)
-run_cut size address count f coming new old_count new_count e ready aligned ends some (in_last front read stopped r did why is b) =
-    by_fault (RunCut size address count (site_of f) new.far) e why is
-    (ending_cut size address count front old_count new_count f stopped new.far why
-    (stopped_at size address count front f read stopped (front_at size address count front f coming read ready aligned ends r) did) b)
-run_cut size address count f coming new old_count new_count e ready aligned ends some (in_polls read mid all r b) =
-    polls_cut size address count read old_count new_count f mid new e (done_at size address count read f coming mid ready aligned ends all r) b
-run_cut size address count f coming new old_count new_count e ready aligned ends some (in_finding read mid polled last all r p why is b) =
+    (ending_cut size address count front old_count new_count f read new.far why (front_at size address count front f coming read ready aligned ends r) b)
+run_cut size address count f coming new old_count new_count e ready aligned ends some (in_polls front values shown read mid r p b) =
+    polls_cut size address count values old_count new_count f mid new e
+    (end_at size address count shown front values f read mid (front_at size address count front f coming read ready aligned ends r) p) b
+run_cut size address count f coming new old_count new_count e ready aligned ends some (in_finding read polled last all r why is b) =
     by_fault (RunCut size address count (site_of f) new.far) e why is
     (clearing_cut size address count read last old_count new_count f polled new.far why
-    (ended_at size address count read last f mid polled (done_at size address count read f coming mid ready aligned ends all r) p) b)
+    (ended_at size address count last read f coming polled ready aligned ends all r) b)
 
 cut_left : (size : Size) (address count : ℕ) (f : Far) (told : Option Far) → RunCut size address count (site_of f) told
     → Leaves (BusBlockLoadCut size address count []) (Some f) told

@@ -15,11 +15,12 @@ use Rattle.probe_access.specs.declared.odd.OddStatus.{OddStatus}
 use Rattle.probe_run.specs.Acts.{Tells, tells}
 use Rattle.probe_access.specs.Blocks.{element_at}
 use Rattle.probe_access.specs.BusRuns.{BusPollFailed, bus_collided, bus_error, cut_to, outside_error}
-use Rattle.probe_access.specs.BusStreams.{Finding, FoundAt, HandOutFell, Handed, HandedOut, Misplaced, Ran, RunFailed, RunFell, RunLoads, RunOddly, RunRead, Stopped, found_acts}
-use Rattle.probe_access.specs.BusStreams.RunFailed.{in_start, in_front, in_stop, in_last, in_polls, in_finding}
+use Rattle.probe_access.specs.BusStreams.{EndRead, Finding, FoundAt, FrontRead, HandOutFell, Handed, HandedOut, Misplaced, RunFailed, RunFell, RunLoads}
+use Rattle.probe_access.specs.BusStreams.{RunOddly, RunRead, Stopped, found_acts}
+use Rattle.probe_access.specs.BusStreams.RunFailed.{in_start, in_front, in_end, in_polls, in_finding}
 use Rattle.probe_access.specs.Faults.{Among, BrokeIn}
 use Rattle.probe_access.proofs.Along.{AtSites, did_sites}
-use Rattle.probe_access.proofs.BusStreamClauses.{EndedAt, RunLoaded, RunRefused, done_at, ended_at, ran_on, ran_through, run_refused}
+use Rattle.probe_access.proofs.BusStreamClauses.{EndedAt, RunLoaded, RunRefused, ended_at, ran_on, ran_through, run_refused}
 use Rattle.probe_access.proofs.BusStreamEnds.{Ended, Found, address_small, element_small, found_at}
 use Rattle.probe_access.proofs.BusStreamUnits.{next_of, read_bus, refused_bus, refused_cleared, run_cleared}
 use Rattle.probe_access.proofs.RegisterCalls.{broke_counted}
@@ -30,12 +31,10 @@ pub stopped_of : (size : Size) (address count last place value : ℕ) (read valu
     → RunRead size address count last read old mid → FoundAt place value mid new → HandedOut size address place value read values
     → Stopped size address count last values old new
 stopped_of size address count last place value read values old mid new r f h = record {
-  ran = r.mid;
   read = read;
   all = r.all;
-  runs = r.ran;
   polled = mid;
-  shows = r.polled;
+  runs = r.ran;
   low = f.low;
   high = f.high;
   data0 = f.data0;
@@ -49,7 +48,7 @@ stopped_of size address count last place value read values old mid new r f h = r
 pub all_loaded : (size : Size) (address count last : ℕ) (values : List ℕ) (old new : Tells) → RunRead size address count last values old new
     → bus_error last ≡ 0 → bus_collided last ≡ false → RunLoads size address count values old new
 all_loaded size address count last values old new r fine alone =
-    RunLoads.all r.all (record { mid = r.mid; ran = r.ran; ends = record { last = last; polled = r.polled; fine = fine; alone = alone } })
+    RunLoads.all r.all (record { last = last; ran = r.ran; fine = fine; alone = alone })
 
 -- a poll that failed, since an earlier count of faults
 pub poll_counted : (count mid_count new_count : ℕ) (old new : Tells) (e : AccessFault) → count ≤ mid_count → mid_count ≤ new_count
@@ -61,14 +60,17 @@ poll_counted count mid_count new_count old new access_fault.StillBusy le later f
 poll_counted count mid_count new_count old new (access_fault.Run why) le later f = f
 poll_counted count mid_count new_count old new (access_fault.Odd shown) le later f = f
 
-polls_fell : (size : Size) (address count old_count new_count : ℕ) (values read : List ℕ) (old mid new : Tells) (e : AccessFault) → length read ≡ count
-    → Ran size address read old mid → BusPollFailed old_count new_count mid new e → RunFell size address count values old_count new_count old new e
-polls_fell size address count old_count new_count values read old mid new (access_fault.Dmi why) all r b = in_polls read mid all r b
-polls_fell size address count old_count new_count values read old mid new (access_fault.Memory at) all r b = absurd b
-polls_fell size address count old_count new_count values read old mid new (access_fault.Register number) all r b = b
-polls_fell size address count old_count new_count values read old mid new access_fault.StillBusy all r b = in_polls read mid all r b
-polls_fell size address count old_count new_count values read old mid new (access_fault.Run why) all r b = b
-polls_fell size address count old_count new_count values read old mid new (access_fault.Odd shown) all r b = absurd b
+polls_fell : (size : Size) (address count old_count new_count shown : ℕ) (values front also : List ℕ) (old read mid new : Tells) (e : AccessFault)
+    → FrontRead size address count front old read → EndRead size front also shown read mid → BusPollFailed old_count new_count mid new e
+    → RunFell size address count values old_count new_count old new e
+polls_fell size address count old_count new_count shown values front also old read mid new (access_fault.Dmi why) r p b =
+    in_polls front also shown read mid r p b
+polls_fell size address count old_count new_count shown values front also old read mid new (access_fault.Memory at) r p b = absurd b
+polls_fell size address count old_count new_count shown values front also old read mid new (access_fault.Register number) r p b = b
+polls_fell size address count old_count new_count shown values front also old read mid new access_fault.StillBusy r p b =
+    in_polls front also shown read mid r p b
+polls_fell size address count old_count new_count shown values front also old read mid new (access_fault.Run why) r p b = b
+polls_fell size address count old_count new_count shown values front also old read mid new (access_fault.Odd odd) r p b = absurd b
 
 link_fell : (size : Size) (address count old_count new_count : ℕ) (values : List ℕ) (old new : Tells) (e : AccessFault) (why : DmiFault)
     → e ≡ access_fault.Dmi why → RunFailed size address count old_count new_count old new e
@@ -83,21 +85,19 @@ run_fell size address count old_count new_count values old new e (in_start why i
     link_fell size address count old_count new_count values old new e why is (in_start why is b)
 run_fell size address count old_count new_count values old new e (in_front number below begun did why is b) =
     link_fell size address count old_count new_count values old new e why is (in_front number below begun did why is b)
-run_fell size address count old_count new_count values old new e (in_stop front read r why is b) =
-    link_fell size address count old_count new_count values old new e why is (in_stop front read r why is b)
-run_fell size address count old_count new_count values old new e (in_last front read stopped r did why is b) =
-    link_fell size address count old_count new_count values old new e why is (in_last front read stopped r did why is b)
-run_fell size address count old_count new_count values old new e (in_polls read mid all r b) =
-    polls_fell size address count old_count new_count values read old mid new e all r b
-run_fell size address count old_count new_count values old new e (in_finding read mid polled last all r p why is b) =
-    link_fell size address count old_count new_count values old new e why is (in_finding read mid polled last all r p why is b)
+run_fell size address count old_count new_count values old new e (in_end front read r why is b) =
+    link_fell size address count old_count new_count values old new e why is (in_end front read r why is b)
+run_fell size address count old_count new_count values old new e (in_polls front also shown read mid r p b) =
+    polls_fell size address count old_count new_count shown values front also old read mid new e r p b
+run_fell size address count old_count new_count values old new e (in_finding read polled last all r why is b) =
+    link_fell size address count old_count new_count values old new e why is (in_finding read polled last all r why is b)
 
 pub find_fell : (size : Size) (address count last old_count mid_count new_count : ℕ) (values read : List ℕ) (old mid new : Tells) (why : DmiFault)
     → RunRead size address count last read old mid → old_count ≤ mid_count → mid_count ≤ new_count
     → BrokeIn (Among Finding) mid_count new_count mid new.far why
     → RunFell size address count values old_count new_count old new (access_fault.Dmi why)
 find_fell size address count last old_count mid_count new_count values read old mid new why r le later b =
-    in_finding read r.mid mid last r.all r.ran r.polled why refl (broke_counted (Among Finding) old_count mid_count new_count mid new.far why le later b)
+    in_finding read mid last r.all r.ran why refl (broke_counted (Among Finding) old_count mid_count new_count mid new.far why le later b)
 
 pub hand_out_fell : (size : Size) (address count last place value old_count new_count : ℕ) (read values : List ℕ) (old mid new : Tells) (e : AccessFault)
     → RunRead size address count last read old mid → ((bus_error last ≢ 0) ⊎ (bus_collided last ≡ true)) → FoundAt place value mid new
@@ -183,7 +183,7 @@ read_ended : (size : Size) (address count last : ℕ) (read : List ℕ) (f : Far
     → is_aligned address size ≡ true → address + count * count_of size ≤ 2 ^ 64 → RunRead size address count last read (tells (Some f) coming) new
     → EndedAt size address count read last f new.far
 read_ended size address count last read f coming new ready aligned ends r =
-    ended_at size address count read last f r.mid new (done_at size address count read f coming r.mid ready aligned ends r.all r.ran) r.polled
+    ended_at size address count last read f coming new ready aligned ends r.all r.ran
 
 pub oddly_none : (size : Size) (address count : ℕ) (shown : OddStatus) (far : Option Far) (coming : Option DmiComing) (new : Tells) → IsReady far
     → is_aligned address size ≡ true → address + count * count_of size ≤ 2 ^ 64 → count ≤ 512

@@ -7,6 +7,7 @@ pub mod Along
 pub mod WordLemmas
 pub mod ReadyUnit
 pub mod TransferLemmas
+pub mod PollRises
 pub mod Polls
 pub mod RegisterCalls
 pub mod SentCalls
@@ -45,9 +46,12 @@ pub mod DcsrClauses
 pub mod StepLemmas
 pub mod StepReads
 pub mod StepClauses
+pub mod BusSameValues
 pub mod BusSites
+pub mod BusRunEnds
 pub mod BusStages
 pub mod BusUnits
+pub mod BusPollRises
 pub mod BusPolls
 pub mod BusTold
 pub mod BusClauses
@@ -112,12 +116,14 @@ pub mod BusStreamCauses
 pub mod BusStreamParts
 pub mod BusStoreUnits
 pub mod BusStoreSites
+pub mod BusStoreStarts
 pub mod BusStoreSteps
 pub mod BusStoreEnds
 pub mod BusStoreOutcomes
 pub mod BusStoreCuts
 pub mod BusStoreCauses
 pub mod BusStoreCalls
+pub mod BlockRises
 pub mod BusStoreParts
 pub mod PendingTold
 pub mod PendingClauses
@@ -132,3 +138,4 @@ pub mod BusStoreAwaits
 pub mod BusStoreAwaitTold
 pub mod BusStoreAwaitCuts
 pub mod BusStoreAwaitFaults
+pub mod StepRises

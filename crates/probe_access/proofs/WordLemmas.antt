@@ -72,7 +72,7 @@ all_cleared HaltResume = refl
 bit_set : (place w : ℕ) → field place 1 w ≡ 1 → bit place w ≡ true
 bit_set place w is = eq-eqb (field place 1 w) 1 is
 
-bit_clear : (place w : ℕ) → field place 1 w ≡ 0 → bit place w ≡ false
+pub bit_clear : (place w : ℕ) → field place 1 w ≡ 0 → bit place w ≡ false
 bit_clear place w is = ne_eqb (field place 1 w) 1 (λ e. let z : 0 ≡ 1 = sym is ∙ e in absurd (omega arith))
 
 same_fields : (a b : AbstractCommand) → a.cmdtype ≡ b.cmdtype → a.aarsize ≡ b.aarsize → a.aarpostincrement ≡ b.aarpostincrement → a.postexec ≡ b.postexec

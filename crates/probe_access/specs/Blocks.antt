@@ -1,6 +1,6 @@
 -- What a block of accesses does at a told chip: one access for each element, upwards, up to and with the first that memory refuses.
 -- It is this project's own. It doesn't depend on how the accesses are made: turns of harts are all else that happens, and no register is changed.
-use Rattle.std.specs.Prelude.{◌≡◌, ◌<◌, ◌+◌, ◌*◌, ◌++◌, ◌∷◌, ℕ, List, [], length, Option, Some, None, Ok, Err, ⊤}
+use Rattle.std.specs.Prelude.{◌≡◌, ◌<◌, ◌+◌, ◌*◌, ◌++◌, ◌∷◌, ℕ, List, [], length, slice_index_or, Option, Some, None, Ok, Err, ⊤}
 use Rattle.rv_model.specs.declared.mem_fault.MemFault.{MemFault}
 use Rattle.rv_model.specs.declared.size.Size.{Size}
 use Rattle.rv_model.specs.Memory.{after_store, loaded, store_answer}
@@ -18,6 +18,10 @@ use Rattle.probe_access.specs.Registers.{site_before}
 -- the address of an element
 abbrev pub element_at : Size → ℕ → ℕ → ℕ
 element_at size address i = address + i * count_of size
+
+-- and its value, of a list of them
+abbrev pub value_at : List ℕ → ℕ → ℕ
+value_at values i = slice_index_or values i 0
 
 -- ---- one element
 

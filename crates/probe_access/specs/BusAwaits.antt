@@ -2,48 +2,49 @@
 -- RISC-V Debug Specification 1.0, "System Bus Access Control and Status" (sbbusy, sbautoincrement, sbreadondata).
 use Rattle.std.specs.Prelude.{◌≡◌, ◌<◌, ◌+◌, ℕ, List, [], ◌∷◌, length, false}
 use Rattle.rv_model.specs.declared.size.Size.{Size}
-use Rattle.debug_model.specs.Addresses.{sbcs_address, sbdata0_address}
-use Rattle.debug_model.specs.Commands.{low_half}
+use Rattle.debug_model.specs.Addresses.{sbcs_address}
 use Rattle.debug_model.specs.declared.dmi.DmiFault.{DmiFault}
 use Rattle.probe_access.specs.declared.fault.AccessFault.{AccessFault}
 use Rattle.probe_access.specs.declared.fault.AccessFault.TheVariants as fault
 use Rattle.probe_run.specs.Acts.{Did, Tells}
 use Rattle.probe_run.specs.Acts.Act.{Put}
-use Rattle.probe_access.specs.Blocks.{element_at}
+use Rattle.probe_access.specs.Blocks.{element_at, value_at}
 use Rattle.probe_access.specs.BusRuns.{BusEndFailed, BusEnded, Starting}
-use Rattle.probe_access.specs.BusStoreStreams.{stores_started}
+use Rattle.probe_access.specs.BusStoreStreams.{element_puts, stores_started, upper_at}
 use Rattle.probe_access.specs.BusStreams.{MoreRead, ReadingData, run_started, running}
 use Rattle.probe_access.specs.Faults.{Among, BrokeIn}
 
 -- ---- stores
 
--- the lower half of the data was written, and the store that it started ended without an error
-pub record StoredNext (low : ℕ) (old new : Tells) : Type 0 where
+-- an element's words of the data were written, and the store that they started ended without an error
+pub record StoredNext (upper value : ℕ) (old new : Tells) : Type 0 where
   pub asked : Tells
-  pub put : Did old (Put sbdata0_address low ∷ []) asked
+  pub put : Did old (element_puts upper value) asked
   pub ends : BusEnded asked new
 
 -- by which call failed, where it was of this address
-pub data StoreNextFailed (low at old_count new_count : ℕ) (old new : Tells) (e : AccessFault) : Type 0 where
-  in_put : (why : DmiFault) → e ≡ fault.Dmi why → BrokeIn (Starting (Put sbdata0_address low ∷ [])) old_count new_count old new.far why
-      → StoreNextFailed low at old_count new_count old new e
-  in_end : (asked : Tells) → Did old (Put sbdata0_address low ∷ []) asked → BusEndFailed at old_count new_count asked new e
-      → StoreNextFailed low at old_count new_count old new e
+pub data StoreNextFailed (upper value at old_count new_count : ℕ) (old new : Tells) (e : AccessFault) : Type 0 where
+  in_put : (why : DmiFault) → e ≡ fault.Dmi why → BrokeIn (Among (Starting (element_puts upper value))) old_count new_count old new.far why
+      → StoreNextFailed upper value at old_count new_count old new e
+  in_end : (asked : Tells) → Did old (element_puts upper value) asked → BusEndFailed at old_count new_count asked new e
+      → StoreNextFailed upper value at old_count new_count old new e
 
 -- with so many in front, the elements up to a number were stored, each awaited before the next
-pub data StoresAwaited (size : Size) (address value from : ℕ) (old : Tells) : ℕ → Tells → Type 0 where
-  begun : (new : Tells) → Did old (stores_started size (element_at size address from) value) new → StoresAwaited size address value from old from new
-  next : (n : ℕ) (mid new : Tells) → StoresAwaited size address value from old n mid → StoredNext (low_half value) mid new
-      → StoresAwaited size address value from old (n + 1) new
+pub data StoresAwaited (size : Size) (address : ℕ) (values : List ℕ) (from : ℕ) (old : Tells) : ℕ → Tells → Type 0 where
+  begun : (new : Tells) → Did old (stores_started size (element_at size address from) (upper_at values from)) new
+      → StoresAwaited size address values from old from new
+  next : (n : ℕ) (mid new : Tells) → StoresAwaited size address values from old n mid → StoredNext (upper_at values n) (value_at values n) mid new
+      → StoresAwaited size address values from old (n + 1) new
 
 -- the elements in front were stored, and then it failed
-pub data AwaitedStoresFailed (size : Size) (address value from count old_count new_count : ℕ) (old new : Tells) (e : AccessFault) : Type 0 where
+pub data AwaitedStoresFailed (size : Size) (address : ℕ) (values : List ℕ) (from count old_count new_count : ℕ) (old new : Tells) (e : AccessFault)
+    : Type 0 where
   in_start : (why : DmiFault) → e ≡ fault.Dmi why
-      → BrokeIn (Starting (stores_started size (element_at size address from) value)) old_count new_count old new.far why
-      → AwaitedStoresFailed size address value from count old_count new_count old new e
-  in_next : (n : ℕ) (mid : Tells) → n < count → StoresAwaited size address value from old n mid
-      → StoreNextFailed (low_half value) (element_at size address n) old_count new_count mid new e
-      → AwaitedStoresFailed size address value from count old_count new_count old new e
+      → BrokeIn (Starting (stores_started size (element_at size address from) (upper_at values from))) old_count new_count old new.far why
+      → AwaitedStoresFailed size address values from count old_count new_count old new e
+  in_next : (n : ℕ) (mid : Tells) → n < count → StoresAwaited size address values from old n mid
+      → StoreNextFailed (upper_at values n) (value_at values n) (element_at size address n) old_count new_count mid new e
+      → AwaitedStoresFailed size address values from count old_count new_count old new e
 
 -- ---- loads
 

@@ -1,18 +1,15 @@
 -- The calls of a block of accesses by the system bus: how each element was accessed, and what a fault follows.
 -- RISC-V Debug Specification 1.0, "System Bus Access" and "System Bus Access Control and Status".
-use Rattle.std.specs.Prelude.{◌≡◌, ◌≢◌, ◌⊎◌, ◌<◌, ◌++◌, ◌∷◌, ℕ, List, [], length, true, false}
+use Rattle.std.specs.Prelude.{◌≡◌, ◌≢◌, ◌⊎◌, ◌<◌, ◌++◌, ◌∷◌, ℕ, List, [], length, replicate, true, false}
 use Rattle.rv_model.specs.declared.size.Size.{Size}
 use Rattle.probe_access.specs.declared.fault.AccessFault.{AccessFault}
 use Rattle.probe_access.specs.declared.fault.AccessFault.TheVariants as fault
 use Rattle.probe_access.specs.declared.odd.OddStatus.{OddStatus}
 use Rattle.probe_access.specs.declared.odd.OddStatus.TheVariants.{Sbcs}
-use Rattle.debug_model.specs.Addresses.{sbdata0_address}
-use Rattle.debug_model.specs.Commands.{low_half}
 use Rattle.probe_run.specs.Acts.{Act, Attempt, Broke, Did, Tells}
-use Rattle.probe_run.specs.Acts.Act.{Put}
 use Rattle.probe_access.specs.BusAwaits.{AllAwaited, LoadsAwaited, StoresAwaited}
-use Rattle.probe_access.specs.Blocks.{element_at}
-use Rattle.probe_access.specs.BusStoreStreams.{StoresStopped, StoresThrough}
+use Rattle.probe_access.specs.Blocks.{element_at, value_at}
+use Rattle.probe_access.specs.BusStoreStreams.{StoresStopped, StoresThrough, element_puts, upper_at}
 use Rattle.probe_access.specs.BusStreams.{RunLoads, Stopped}
 use Rattle.probe_access.specs.BusRuns.{BusAlwaysBusy, BusRefused, bus_busy, bus_collided, bus_error, bus_poll, outside_error}
 
@@ -44,22 +41,29 @@ pub data BusLoadsRefused (size : Size) (address : ℕ) (values : List ℕ) (old 
 
 -- ---- stores
 
--- just so many elements from an address on were stored, in this order: in a run that went through; or the first of them in one that ended where one was
--- asked for too early, and the others each awaited before the next
-pub data BusStores (size : Size) (address value : ℕ) (old : Tells) : ℕ → Tells → Type 0 where
-  ran : (count : ℕ) (new : Tells) → StoresThrough size address value count old new → BusStores size address value old count new
-  ran_on : (count last done : ℕ) (new : Tells) → StoresStopped size address value count last done old new → bus_error last ≡ 0 → bus_collided last ≡ true
-      → BusStores size address value old done new
-  awaited : (from n : ℕ) (mid new : Tells) → BusStores size address value old from mid → StoresAwaited size address value from mid n new
-      → BusStores size address value old n new
+-- just so many of these values were stored from an address on, in this order: in a run that went through; or the first of them in one that ended where
+-- one was asked for too early, and the others each awaited before the next
+pub data BusValueStores (size : Size) (address : ℕ) (values : List ℕ) (old : Tells) : ℕ → Tells → Type 0 where
+  ran : (count : ℕ) (new : Tells) → StoresThrough size address values count old new → BusValueStores size address values old count new
+  ran_on : (count last done : ℕ) (new : Tells) → StoresStopped size address values count last done old new → bus_error last ≡ 0
+      → bus_collided last ≡ true → BusValueStores size address values old done new
+  awaited : (from n : ℕ) (mid new : Tells) → BusValueStores size address values old from mid → StoresAwaited size address values from mid n new
+      → BusValueStores size address values old n new
 
 -- and the next was tried and refused
-pub data BusStoresRefused (size : Size) (address value count : ℕ) (old new : Tells) : Type 0 where
-  in_run : (last done : ℕ) → done < count → StoresStopped size address value count last done old new → bus_error last ≡ outside_error
-      → BusStoresRefused size address value count old new
-  awaited : (from n : ℕ) (first mid asked : Tells) → n < count → BusStores size address value old from first
-      → StoresAwaited size address value from first n mid → Did mid (Put sbdata0_address (low_half value) ∷ []) asked → BusRefused asked new
-      → BusStoresRefused size address value count old new
+pub data BusValueStoresRefused (size : Size) (address : ℕ) (values : List ℕ) (count : ℕ) (old new : Tells) : Type 0 where
+  in_run : (last done : ℕ) → done < count → StoresStopped size address values count last done old new → bus_error last ≡ outside_error
+      → BusValueStoresRefused size address values count old new
+  awaited : (from n : ℕ) (first mid asked : Tells) → n < count → BusValueStores size address values old from first
+      → StoresAwaited size address values from first n mid → Did mid (element_puts (upper_at values n) (value_at values n)) asked → BusRefused asked new
+      → BusValueStoresRefused size address values count old new
+
+-- of one value, so many times
+abbrev pub BusStores : Size → (address value : ℕ) → Tells → (count : ℕ) → Tells → Type 0
+BusStores size address value old count new = BusValueStores size address (replicate count value) old count new
+
+abbrev pub BusStoresRefused : Size → (address value count : ℕ) → Tells → Tells → Type 0
+BusStoresRefused size address value count old new = BusValueStoresRefused size address (replicate count value) count old new
 
 -- ---- what a fault follows
 

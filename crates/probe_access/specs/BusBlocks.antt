@@ -12,7 +12,7 @@ use Rattle.abstract_debugger.specs.Turns.{after_turns}
 use Rattle.probe_access.specs.declared.fault.AccessFault.{AccessFault}
 use Rattle.probe_access.specs.declared.fault.AccessFault.TheVariants as fault
 use Rattle.probe_access.specs.Accesses.{OneBusAccess, unchanged}
-use Rattle.probe_access.specs.Blocks.{element_at}
+use Rattle.probe_access.specs.Blocks.{element_at, value_at}
 use Rattle.probe_access.specs.Cuts.{BusLeftOff, LoadLeaves, StoreLeaves}
 use Rattle.probe_access.specs.Registers.{site_before}
 
@@ -61,6 +61,12 @@ pub data BusStoredEach (size : Size) (address value : ℕ) (s : Site) : ℕ → 
   further : (n : ℕ) (m t : Site) → BusStoredEach size address value s n m → BusStoredOne size (element_at size address n) value m t
       → BusStoredEach size address value s (n + 1) t
 
+-- the first so many of these values were stored from an address on, each at its own access
+pub data BusStoredValues (size : Size) (address : ℕ) (values : List ℕ) (s : Site) : ℕ → Site → Type 0 where
+  nothing : BusStoredValues size address values s 0 s
+  further : (n : ℕ) (m t : Site) → BusStoredValues size address values s n m → BusStoredOne size (element_at size address n) (value_at values n) m t
+      → BusStoredValues size address values s (n + 1) t
+
 -- ---- at the chip
 
 pub record BusBlockLoadedAt (size : Size) (address : ℕ) (values : List ℕ) (c : Chip) (new : Option Far) : Type 0 where
@@ -88,6 +94,18 @@ pub record BusBlockStoreRefused (size : Size) (address value done : ℕ) (c : Ch
   pub each : BusStoredEach size address value (site_before c) done mid
   pub refused : BusNotStoredOne size (element_at size address done) mid (site_of far)
 
+pub record BusValuesStoredAt (size : Size) (address : ℕ) (values : List ℕ) (count : ℕ) (c : Chip) (new : Option Far) : Type 0 where
+  pub far : Far
+  pub is : new ≡ Some far
+  pub each : BusStoredValues size address values (site_before c) count (site_of far)
+
+pub record BusValueStoreRefused (size : Size) (address : ℕ) (values : List ℕ) (done : ℕ) (c : Chip) (new : Option Far) : Type 0 where
+  pub far : Far
+  pub is : new ≡ Some far
+  pub mid : Site
+  pub each : BusStoredValues size address values (site_before c) done mid
+  pub refused : BusNotStoredOne size (element_at size address done) mid (site_of far)
+
 -- ---- by the fault: no register is refused, and no other error shown, of a told chip; a fault of memory is of the element behind those that were done
 
 abbrev pub BusBlockLoadLeft : Size → ℕ → ℕ → List ℕ → Option Far → Option Far → AccessFault → Type 0
@@ -108,6 +126,15 @@ BusBlockStoreLeft size address count value old new fault.StillBusy = Unit {0}
 BusBlockStoreLeft size address count value old new (fault.Run why) = ⊥
 BusBlockStoreLeft size address count value old new (fault.Odd shown) = old ≡ None
 
+abbrev pub BusValuesStoreLeft : Size → ℕ → List ℕ → ℕ → Option Far → Option Far → AccessFault → Type 0
+BusValuesStoreLeft size address values count old new (fault.Dmi why) = Unit {0}
+BusValuesStoreLeft size address values count old new (fault.Memory at) = (done : ℕ) × (done < count) × (at ≡ element_at size address done)
+    × WhereTold (BusValueStoreRefused size address values done) old new
+BusValuesStoreLeft size address values count old new (fault.Register number) = old ≡ None
+BusValuesStoreLeft size address values count old new fault.StillBusy = Unit {0}
+BusValuesStoreLeft size address values count old new (fault.Run why) = ⊥
+BusValuesStoreLeft size address values count old new (fault.Odd shown) = old ≡ None
+
 -- ---- where it broke off: a front of the elements is done, and of the next one at most the access
 
 -- those that were handed out are the first of the ones that were loaded
@@ -124,3 +151,10 @@ pub record BusBlockStoreCut (size : Size) (address value count : ℕ) (s t : Sit
   pub mid : Site
   pub each : BusStoredEach size address value s done mid
   pub left : BusLeftOff (StoreLeaves size (element_at size address done) value) mid t
+
+pub record BusValuesStoreCut (size : Size) (address : ℕ) (values : List ℕ) (count : ℕ) (s t : Site) : Type 0 where
+  pub done : ℕ
+  pub below : done < count
+  pub mid : Site
+  pub each : BusStoredValues size address values s done mid
+  pub left : BusLeftOff (StoreLeaves size (element_at size address done) (value_at values done)) mid t

@@ -1,6 +1,6 @@
 -- The calls of a run of loads by the system bus: the address starts the first access, and each read of sbdata0 the next, one size further on, but for the
 -- last. RISC-V Debug Specification 1.0, "System Bus Access Control and Status" (sbreadonaddr, sbautoincrement, sbreadondata) and "System Bus Data 31:0".
-use Rattle.std.specs.Prelude.{◌≡◌, ◌≢◌, ◌⊎◌, ◌<◌, ◌≤◌, ◌++◌, ◌+◌, ◌%◌, ◌^◌, ℕ, zero, suc, List, [], ◌∷◌, length, Bool, true, false}
+use Rattle.std.specs.Prelude.{◌≡◌, ◌≢◌, ◌⊎◌, ◌<◌, ◌≤◌, ◌++◌, ◌+◌, ◌%◌, ◌^◌, ℕ, zero, suc, List, [], ◌∷◌, length, map, All, Bool, true, false}
 use Rattle.rv_model.specs.declared.size.Size.{Size}
 use Rattle.rv_model.specs.declared.size.Size.TheVariants.{B1, B2, B4, B8}
 use Rattle.debug_model.specs.Addresses.{sbcs_address, sbaddress0_address, sbaddress1_address, sbdata0_address, sbdata1_address}
@@ -15,9 +15,11 @@ use Rattle.probe_run.specs.Opening.{clears_sberror}
 use Rattle.probe_access.specs.Blocks.{element_at}
 use Rattle.probe_access.specs.declared.fault.AccessFault.{AccessFault}
 use Rattle.probe_access.specs.declared.fault.AccessFault.TheVariants as fault
-use Rattle.probe_access.specs.BusRuns.{BusEnded, BusPollFailed, BusPolled, Starting, access_number, addressed, bus_collided, bus_error, cut_to, outside_error}
+use Rattle.probe_access.specs.BusRuns.{BusPollFailed, BusPolled, ShowsAccess, Starting, access_number, addressed, bus_busy, bus_collided, bus_error, bus_poll}
+use Rattle.probe_access.specs.BusRuns.{cut_to, outside_error}
 use Rattle.probe_access.specs.declared.odd.OddStatus.{OddStatus}
 use Rattle.probe_access.specs.declared.odd.OddStatus.TheVariants.{Sbcs}
+use Rattle.probe_access.specs.CommandRuns.{polls_most}
 use Rattle.probe_access.specs.Faults.{Among, BrokeIn}
 use Rattle.probe_access.specs.RegisterAccess.{joined}
 
@@ -49,6 +51,13 @@ IsNarrow B1 = Unit {0}
 IsNarrow B2 = Unit {0}
 IsNarrow B4 = Unit {0}
 IsNarrow B8 = ⊥
+
+-- how many words an element is read by
+abbrev pub element_words : Size → ℕ
+element_words B1 = 1
+element_words B2 = 1
+element_words B4 = 1
+element_words B8 = 2
 
 -- each element was read, its lower half last, and these are their values
 pub data ElementsRead (size : Size) : List ℕ → List Act → Type 0 where
@@ -109,22 +118,43 @@ values_in B8 results = doubles_of results
 
 -- ---- a run
 
--- the elements of a run were asked for, and these values were read: the last behind the end of sbreadondata
-pub record Ran (size : Size) (address : ℕ) (values : List ℕ) (old new : Tells) : Type 0 where
+-- the end of a run in one call: sbreadondata ends, the last element is read, and sbcs behind it as it is shown
+pub record EndRead (size : Size) (was is : List ℕ) (shown : ℕ) (old new : Tells) : Type 0 where
+  pub values : List ℕ
+  pub joins : is ≡ was ++ values
+  pub count : length values ≡ 1
+  pub acts : List Act
+  pub read : ElementsRead size values acts
+  pub did : Did old (Put sbcs_address (running false size) ∷ (acts ++ bus_poll shown ∷ [])) new
+
+-- and the polls behind it, up to the first that showed no access under way
+pub record EndPolled (size : Size) (was is : List ℕ) (last : ℕ) (old new : Tells) : Type 0 where
+  pub values : List ℕ
+  pub joins : is ≡ was ++ values
+  pub count : length values ≡ 1
+  pub acts : List Act
+  pub read : ElementsRead size values acts
+  pub words : List ℕ
+  pub busy : All ShowsAccess words
+  pub few : length words ≤ polls_most
+  pub idle : bus_busy last ≡ false
+  pub did : Did old (Put sbcs_address (running false size) ∷ (acts ++ (map bus_poll words ++ bus_poll last ∷ []))) new
+
+-- the elements of a run were asked for, and these values were read: the last behind the end of sbreadondata; and this is sbcs at the end of the last access
+pub record Ran (size : Size) (address : ℕ) (values : List ℕ) (last : ℕ) (old new : Tells) : Type 0 where
   pub begun : Tells
   pub starts : Did old (run_started size address) begun
   pub front : List ℕ
   pub read : Tells
   pub first : MoreRead size (length front) [] front begun read
-  pub stopped : Tells
-  pub stops : Did read (Put sbcs_address (running false size) ∷ []) stopped
-  pub last : MoreRead size 1 front values stopped new
+  pub ends : EndPolled size front values last read new
 
 -- all were right: none was read too early, and memory refused none
 pub record RanThrough (size : Size) (address : ℕ) (values : List ℕ) (old new : Tells) : Type 0 where
-  pub mid : Tells
-  pub ran : Ran size address values old mid
-  pub ends : BusEnded mid new
+  pub last : ℕ
+  pub ran : Ran size address values last old new
+  pub fine : bus_error last ≡ 0
+  pub alone : bus_collided last ≡ false
 
 -- what is handed out of the words that were read, and of the one that the bus still holds, which is the last
 pub data Handed (read : List ℕ) (held : ℕ) : List ℕ → Type 0 where
@@ -143,12 +173,10 @@ found_acts low high data0 data1 =
 
 -- an error was shown at the end: the address stands behind the last element that was loaded, whose value the bus still holds
 pub record Stopped (size : Size) (address count last : ℕ) (values : List ℕ) (old new : Tells) : Type 0 where
-  pub ran : Tells
   pub read : List ℕ
   pub all : length read ≡ count
-  pub runs : Ran size address read old ran
   pub polled : Tells
-  pub shows : BusPolled last ran polled
+  pub runs : Ran size address read last old polled
   pub low : ℕ
   pub high : ℕ
   pub data0 : ℕ
@@ -183,32 +211,38 @@ pub record FrontRead (size : Size) (address count : ℕ) (front : List ℕ) (old
   pub starts : Did old (run_started size address) begun
   pub first : MoreRead size (length front) [] front begun new
 
+-- at the end of a run, behind these: sbreadondata is to end, a word of the last element to be read, or sbcs
+pub data Ending (size : Size) : List Act → Attempt → Type 0 where
+  stops : Ending size [] (Operation (Write sbcs_address (running false size)))
+  reads : (acts : List Act) (op : DmiOp) → ReadingData 1 acts (Operation op) → Ending size (Put sbcs_address (running false size) ∷ acts) (Operation op)
+  looks : (values : List ℕ) (acts : List Act) → length values ≡ 1 → ElementsRead size values acts
+      → Ending size (Put sbcs_address (running false size) ∷ acts) (Operation (Read sbcs_address))
+
 -- by which call failed
 pub data RunFailed (size : Size) (address count old_count new_count : ℕ) (old new : Tells) (e : AccessFault) : Type 0 where
-  in_start : (why : DmiFault) → e ≡ fault.Dmi why → BrokeIn (Starting (run_started size address)) old_count new_count old new.far why
+  in_start : (why : DmiFault) → e ≡ fault.Dmi why → BrokeIn (Among (Starting (run_started size address))) old_count new_count old new.far why
       → RunFailed size address count old_count new_count old new e
   in_front : (number : ℕ) → number < count → (begun : Tells) → Did old (run_started size address) begun → (why : DmiFault) → e ≡ fault.Dmi why
       → BrokeIn (Among (ReadingData number)) old_count new_count begun new.far why → RunFailed size address count old_count new_count old new e
-  in_stop : (front : List ℕ) (read : Tells) → FrontRead size address count front old read → (why : DmiFault) → e ≡ fault.Dmi why
-      → BrokeIn (Starting (Put sbcs_address (running false size) ∷ [])) old_count new_count read new.far why
-      → RunFailed size address count old_count new_count old new e
-  in_last : (front : List ℕ) (read stopped : Tells) → FrontRead size address count front old read
-      → Did read (Put sbcs_address (running false size) ∷ []) stopped → (why : DmiFault) → e ≡ fault.Dmi why
-      → BrokeIn (Among (ReadingData 1)) old_count new_count stopped new.far why → RunFailed size address count old_count new_count old new e
-  in_polls : (read : List ℕ) (ran : Tells) → length read ≡ count → Ran size address read old ran → BusPollFailed old_count new_count ran new e
-      → RunFailed size address count old_count new_count old new e
-  in_finding : (read : List ℕ) (ran polled : Tells) (last : ℕ) → length read ≡ count → Ran size address read old ran → BusPolled last ran polled
+  in_end : (front : List ℕ) (read : Tells) → FrontRead size address count front old read → (why : DmiFault) → e ≡ fault.Dmi why
+      → BrokeIn (Among (Ending size)) old_count new_count read new.far why → RunFailed size address count old_count new_count old new e
+  in_polls : (front values : List ℕ) (shown : ℕ) (read mid : Tells) → FrontRead size address count front old read → EndRead size front values shown read mid
+      → BusPollFailed old_count new_count mid new e → RunFailed size address count old_count new_count old new e
+  in_finding : (read : List ℕ) (polled : Tells) (last : ℕ) → length read ≡ count → Ran size address read last old polled
       → (why : DmiFault) → e ≡ fault.Dmi why → BrokeIn (Among Finding) old_count new_count polled new.far why
       → RunFailed size address count old_count new_count old new e
 
 -- ---- the end
 
--- the words of a run, with the poll behind them
+-- sbcs at the end of the last access: as it was shown already, or else polled for
+pub data PolledOn (shown last : ℕ) (old new : Tells) : Type 0 where
+  at_once : bus_busy shown ≡ false → last ≡ shown → new ≡ old → PolledOn shown last old new
+  later : bus_busy shown ≡ true → BusPolled last old new → PolledOn shown last old new
+
+-- the words of a run, with the last poll behind them
 pub record RunRead (size : Size) (address count last : ℕ) (values : List ℕ) (old new : Tells) : Type 0 where
   pub all : length values ≡ count
-  pub mid : Tells
-  pub ran : Ran size address values old mid
-  pub polled : BusPolled last mid new
+  pub ran : Ran size address values last old new
 
 -- just these elements were loaded: all, or those up to the first that was read too early
 pub data RunLoads (size : Size) (address count : ℕ) (values : List ℕ) (old new : Tells) : Type 0 where

@@ -1,5 +1,6 @@
 pub mod Accesses
 pub mod BlockCuts
+pub mod BlockRises
 pub mod BlockRuns
 pub mod Blocks
 pub mod BusAwaits

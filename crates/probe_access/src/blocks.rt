@@ -3,9 +3,11 @@
 ghost use Rattle.std.specs.Prelude.{◌≡◌, ◌≤◌, ◌<◌, ◌+◌, ◌*◌, [], true, length, IfErr, OnOk};
 ghost use Rattle.rv_model.specs.Memory.{is_aligned};
 ghost use Rattle.rv_model.specs.Size.{count_of};
+ghost use Rattle.debug_model.specs.Rises.{Within};
 ghost use Rattle.debug_model.specs.Command.{most_elements, all_addresses};
 ghost use Rattle.probe_access.specs.Accesses.{IfMemory};
 ghost use Rattle.probe_access.specs.BlockCuts.{BlockLoadCut, BlockStoreCut};
+ghost use Rattle.probe_access.specs.BlockRises.{load_rises, store_rises};
 ghost use Rattle.probe_access.specs.BlockRuns.{Causes, Fetched};
 ghost use Rattle.probe_access.specs.Blocks.{BlockLoadLeft, BlockLoadedAt, BlockStoreLeft, BlockStoredAt, element_at};
 ghost use Rattle.probe_access.specs.Cuts.{IfCut, Leaves};
@@ -56,6 +58,7 @@ fn load_elements<D: Dmi>(
     ensures all { OnOk result (length into.new.items ≡ count) }
     ensures loaded { OnOk result (LoadsInside size address count into.new.items (told (D.seen link.old)) (told (D.seen link.new))) }
     ensures failed { IfErr result (Fails (LoadsFailed size address count into.new.items) (D.seen link.old) (D.seen link.new)) }
+    ensures rises { Within (82 * count + 16) (D.seen link.old) (D.seen link.new) }
     ensures keeps { Keeps access_why (D.seen link.old) (D.seen link.new) result }
 {
     load_front(link, size, address, count, into)?;
@@ -87,6 +90,7 @@ fn store_elements<D: Dmi>(
     requires ends { address + count * count_of size ≤ all_addresses }
     ensures stored { OnOk result (StoresOn size address value count (told (D.seen link.old)) count (told (D.seen link.new))) }
     ensures failed { IfErr result (Fails (StoresFailed size address value count) (D.seen link.old) (D.seen link.new)) }
+    ensures rises { Within (63 * count + 256) (D.seen link.old) (D.seen link.new) }
     ensures keeps { Keeps access_why (D.seen link.old) (D.seen link.new) result }
 {
     let done = store_front(link, size, address, count, value)?;
@@ -113,6 +117,7 @@ fn loads_around<D: Dmi>(
     ensures all { OnOk result (length into.new.items ≡ count) }
     ensures loaded { OnOk result (LoadRuns size address count (told (D.seen link.old)) into.new.items (told (D.seen link.new))) }
     ensures failed { IfErr result (Fails (LoadRunsFailed size address count into.new.items) (D.seen link.old) (D.seen link.new)) }
+    ensures rises { Within (load_rises count) (D.seen link.old) (D.seen link.new) }
     ensures keeps { Keeps access_why (D.seen link.old) (D.seen link.new) result }
 {
     let scratch = save_scratch(link)?;
@@ -153,6 +158,7 @@ pub fn load_block<D: Dmi>(
     ensures cut { IfErr result (IfCut (Leaves (BlockLoadCut size address count into.new.items halted.now.number) (D.seen link.old).far (D.seen link.new).far)) }
     ensures serving { OnOk result (Serving halted.now.number (D.seen link.new).far) }
     ensures serving_still { IfErr result (IfMemory (Serving halted.now.number (D.seen link.new).far)) }
+    ensures rises { Within (load_rises count) (D.seen link.old) (D.seen link.new) }
     ensures keeps { Keeps access_why (D.seen link.old) (D.seen link.new) result }
 {
     let _halted = halted;
@@ -174,6 +180,7 @@ fn stores_around<D: Dmi>(
     requires ends { address + count * count_of size ≤ all_addresses }
     ensures stored { OnOk result (StoreRuns size address value (told (D.seen link.old)) count (told (D.seen link.new))) }
     ensures failed { IfErr result (Fails (StoreRunsFailed size address value count) (D.seen link.old) (D.seen link.new)) }
+    ensures rises { Within (store_rises count) (D.seen link.old) (D.seen link.new) }
     ensures keeps { Keeps access_why (D.seen link.old) (D.seen link.new) result }
 {
     let scratch = save_scratch(link)?;
@@ -210,6 +217,7 @@ pub fn store_block<D: Dmi>(
     ensures cut { IfErr result (IfCut (Leaves (BlockStoreCut size address value count halted.now.number) (D.seen link.old).far (D.seen link.new).far)) }
     ensures serving { OnOk result (Serving halted.now.number (D.seen link.new).far) }
     ensures serving_still { IfErr result (IfMemory (Serving halted.now.number (D.seen link.new).far)) }
+    ensures rises { Within (store_rises count) (D.seen link.old) (D.seen link.new) }
     ensures keeps { Keeps access_why (D.seen link.old) (D.seen link.new) result }
 {
     let _halted = halted;

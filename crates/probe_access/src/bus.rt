@@ -6,6 +6,7 @@ ghost use Rattle.debug_model.specs.Told.{IsReady};
 ghost use Rattle.probe_access.specs.Accesses.{AccessLeft, BusLoadRefused, BusLoadedAt, BusStoreRefused, BusStoredAt, IfMemory};
 ghost use Rattle.probe_access.specs.BusRuns.{BusLoadFailed, BusLoaded, BusStoreFailed, BusStored};
 ghost use Rattle.probe_access.specs.Cuts.{BusLeftOff, IfCut, Leaves, LoadLeaves, StoreLeaves};
+ghost use Rattle.debug_model.specs.Rises.{Within};
 ghost use Rattle.debug_model.specs.Kept.{CanCall, Keeps};
 ghost use Rattle.probe_run.specs.Told.{Fails, OnChip, told};
 ghost use Rattle.probe_access.specs.Faults.{access_why};
@@ -17,6 +18,7 @@ use rv_model::Size;
 
 /// Loads 1, 2, 4 or 8 bytes of memory by the system bus, the upper bits 0: one access. `Memory` where a byte lies outside memory
 /// (RISC-V Debug Specification 1.0, "System Bus Access").
+#[tactic(auto, using(debug_model::proofs::RiseLemmas::within_then, debug_model::proofs::RiseLemmas::within_more))]
 pub fn bus_load<D: Dmi>(link: &mut D, size: Size, address: u64) -> Result<u64, AccessFault>
     requires callable { CanCall (D.seen link.old) }
     requires ready { IsReady (D.seen link.old).far }
@@ -28,6 +30,7 @@ pub fn bus_load<D: Dmi>(link: &mut D, size: Size, address: u64) -> Result<u64, A
     ensures cut { IfErr result (IfCut (Leaves (BusLeftOff LoadLeaves) (D.seen link.old).far (D.seen link.new).far)) }
     ensures ready { OnOk result (IsReady (D.seen link.new).far) }
     ensures ready_again { IfErr result (IfMemory (IsReady (D.seen link.new).far)) }
+    ensures rises { Within 7 (D.seen link.old) (D.seen link.new) }
     ensures keeps { Keeps access_why (D.seen link.old) (D.seen link.new) result }
 {
     start_read(link, size, address)?;
@@ -38,6 +41,7 @@ pub fn bus_load<D: Dmi>(link: &mut D, size: Size, address: u64) -> Result<u64, A
 
 /// Stores the lowest 1, 2, 4 or 8 bytes of a value by the system bus: one access. `Memory` where a byte lies outside memory
 /// (RISC-V Debug Specification 1.0, "System Bus Access").
+#[tactic(auto, using(debug_model::proofs::RiseLemmas::within_then, debug_model::proofs::RiseLemmas::within_more))]
 pub fn bus_store<D: Dmi>(
     link: &mut D,
     size: Size,
@@ -54,6 +58,7 @@ pub fn bus_store<D: Dmi>(
     ensures cut { IfErr result (IfCut (Leaves (BusLeftOff (StoreLeaves size address value)) (D.seen link.old).far (D.seen link.new).far)) }
     ensures ready { OnOk result (IsReady (D.seen link.new).far) }
     ensures ready_again { IfErr result (IfMemory (IsReady (D.seen link.new).far)) }
+    ensures rises { Within 7 (D.seen link.old) (D.seen link.new) }
     ensures keeps { Keeps access_why (D.seen link.old) (D.seen link.new) result }
 {
     start_write(link, size, address, value)?;

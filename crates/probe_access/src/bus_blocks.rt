@@ -3,13 +3,19 @@
 ghost use Rattle.std.specs.Prelude.{◌≡◌, ◌⊎◌, ◌≤◌, ◌+◌, ◌*◌, ◌++◌, [], true, length, IfErr, OnOk};
 ghost use Rattle.rv_model.specs.Memory.{is_aligned};
 ghost use Rattle.rv_model.specs.Size.{count_of};
+ghost use Rattle.debug_model.specs.Rises.{Within};
 ghost use Rattle.debug_model.specs.Command.{most_elements, all_addresses};
 ghost use Rattle.debug_model.specs.Told.{IsReady};
 ghost use Rattle.probe_access.specs.Accesses.{IfMemory};
+ghost use Rattle.probe_access.specs.BlockRises.{bus_load_rises, bus_store_rises, bus_values_rises};
 ghost use Rattle.probe_access.specs.BusBlocks.{BusBlockLoadCut, BusBlockLoadLeft, BusBlockLoadedAt, BusBlockStoreCut, BusBlockStoreLeft, BusBlockStoredAt};
-ghost use Rattle.probe_access.specs.BusBlockRuns.{BusCauses, BusLoads, BusLoadsRefused, BusStores, BusStoresRefused};
+ghost use Rattle.probe_access.specs.BusBlocks.{BusValuesStoreCut, BusValuesStoreLeft, BusValuesStoredAt};
+ghost use Rattle.probe_access.specs.BusStoreStreams.{data_words};
+ghost use Rattle.probe_access.specs.BusBlockRuns.{BusCauses, BusLoads, BusLoadsRefused, BusStores, BusStoresRefused, BusValueStores};
+ghost use Rattle.probe_access.specs.BusBlockRuns.{BusValueStoresRefused};
 ghost use Rattle.probe_access.specs.Cuts.{IfCut, Leaves};
 ghost use Rattle.debug_model.specs.Addresses.{sbcs_address};
+ghost use Rattle.probe_access.specs.BusStreams.{element_words};
 ghost use Rattle.probe_access.specs.Spent.{DidAtMost, IfUnbroken};
 ghost use Rattle.debug_model.specs.Kept.{CanCall, Keeps};
 ghost use Rattle.probe_run.specs.Told.{Fails, OnChip, told};
@@ -25,17 +31,28 @@ use arrayvec::ArrayVec;
 use debug_model::Dmi;
 use rv_model::Size;
 
-/// How many elements the first of two runs has. Where it goes too early, and where the second does, what that wastes and what the rest then take is no more
-/// than `few` of a block allows.
-fn first_run(count: u16) -> u16
+/// How many elements of 8 bytes a block may have that is read in one run. Each of them takes two words, so a longer one has two runs.
+const ONE_RUN_MOST: u16 = 10;
+
+/// How many elements the first run has. Where it goes too early, and where one behind it does, what that wastes and what the rest then take is no more than
+/// `few` of a block allows.
+fn first_run(size: Size, count: u16) -> u16
     requires some { 1 ≤ count }
     requires room { count ≤ most_elements }
     ensures some { 1 ≤ result }
     ensures within { result ≤ count }
-    ensures few { 2 * result ≤ count + 10 }
-    ensures half { (result ≡ count) ⊎ (count + 9 ≤ 2 * result) }
+    ensures few { element_words size * result ≤ count + 10 }
+    ensures half { (result ≡ count) ⊎ (count ≤ 2 * result) }
 {
-    count.min(count / 2 + 5)
+    match size {
+        Size::B1 | Size::B2 | Size::B4 => count,
+        Size::B8 => {
+            if count <= ONE_RUN_MOST {
+                return count;
+            }
+            count / 2 + 1
+        }
+    }
 }
 
 /// Puts values behind others, where there is room.
@@ -45,7 +62,7 @@ fn append(values: &[u64], into: &mut ArrayVec<u64, ELEMENTS_MOST>)
     let _room = into.try_extend_from_slice(values);
 }
 
-/// Loads elements in two runs, or up to the first that was read too early. `Memory` where memory refused one. Behind another fault `into` holds those of the
+/// Loads elements in one run or two, or up to the first that was read too early. `Memory` where memory refused one. Behind another fault `into` holds those of the
 /// runs in front.
 fn load_runs<D: Dmi>(
     link: &mut D,
@@ -72,9 +89,10 @@ fn load_runs<D: Dmi>(
     ensures cut { IfErr result (IfCut (Leaves (BusBlockLoadCut size address count into.new.items) (D.seen link.old).far (D.seen link.new).far)) }
     ensures ready { OnOk result (IsReady (D.seen link.new).far) }
     ensures ready_again { IfErr result (IfMemory (IsReady (D.seen link.new).far)) }
+    ensures rises { Within (2 * count + 22) (D.seen link.old) (D.seen link.new) }
     ensures keeps { Keeps access_why (D.seen link.old) (D.seen link.new) result }
 {
-    let first = first_run(count);
+    let first = first_run(size, count);
     load_run(link, size, address, first, into)?;
     let done = into.len() as u16;
     if done < first || first == count {
@@ -123,6 +141,7 @@ pub fn bus_load_block<D: Dmi>(
     ensures cut { IfErr result (IfCut (Leaves (BusBlockLoadCut size address count into.new.items) (D.seen link.old).far (D.seen link.new).far)) }
     ensures ready { OnOk result (IsReady (D.seen link.new).far) }
     ensures ready_again { IfErr result (IfMemory (IsReady (D.seen link.new).far)) }
+    ensures rises { Within (bus_load_rises count) (D.seen link.old) (D.seen link.new) }
     ensures keeps { Keeps access_why (D.seen link.old) (D.seen link.new) result }
 {
     load_runs(link, size, address, count, into)?;
@@ -130,6 +149,46 @@ pub fn bus_load_block<D: Dmi>(
         return Ok(());
     }
     load_awaited(link, size, address, count, into)?;
+    Ok(())
+}
+
+/// Stores the lowest 1, 2, 4 or 8 bytes of each of these values, upwards from an address, by the system bus: one access for each, in order, up to and
+/// with the first that lies outside memory. Behind `Memory` of an element those in front of it are stored. Each value takes one word of the data, and
+/// one more where its upper half is another than that of the one before. The lower half starts the next access; where one came too early, each of the
+/// rest is awaited (RISC-V Debug Specification 1.0, "System Bus Access").
+pub fn bus_store_values<D: Dmi>(
+    link: &mut D,
+    size: Size,
+    address: u64,
+    values: &[u64],
+) -> Result<(), AccessFault>
+    requires callable { CanCall (D.seen link.old) }
+    requires ready { IsReady (D.seen link.old).far }
+    requires aligned { is_aligned address size ≡ true }
+    requires some { 1 ≤ length values.now }
+    requires room { length values.now ≤ most_elements }
+    requires ends { address + length values.now * count_of size ≤ all_addresses }
+    ensures stored { OnOk result (OnChip (BusValuesStoredAt size address values.now (length values.now)) (D.seen link.old) (D.seen link.new)) }
+    ensures stores { OnOk result (BusValueStores size address values.now (told (D.seen link.old)) (length values.now) (told (D.seen link.new))) }
+    ensures refused { IfErr result
+        (IfMemory (BusValueStoresRefused size address values.now (length values.now) (told (D.seen link.old)) (told (D.seen link.new)))) }
+    ensures few { OnOk result (DidAtMost sbcs_address (2 * data_words values.now + 14) (told (D.seen link.old)) (told (D.seen link.new))) }
+    ensures few_failed { IfErr result
+        (IfUnbroken (DidAtMost sbcs_address (2 * data_words values.now + 14) (told (D.seen link.old)) (told (D.seen link.new)))) }
+    ensures left { IfErr result (BusValuesStoreLeft size address values.now (length values.now) (D.seen link.old).far (D.seen link.new).far) }
+    ensures causes { IfErr result (Fails BusCauses (D.seen link.old) (D.seen link.new)) }
+    ensures cut { IfErr result
+        (IfCut (Leaves (BusValuesStoreCut size address values.now (length values.now)) (D.seen link.old).far (D.seen link.new).far)) }
+    ensures ready { OnOk result (IsReady (D.seen link.new).far) }
+    ensures ready_again { IfErr result (IfMemory (IsReady (D.seen link.new).far)) }
+    ensures rises { Within (bus_values_rises values.now) (D.seen link.old) (D.seen link.new) }
+    ensures keeps { Keeps access_why (D.seen link.old) (D.seen link.new) result }
+{
+    let done = store_run(link, size, address, values)?;
+    if done as usize == values.len() {
+        return Ok(());
+    }
+    store_awaited(link, size, address, done, values)?;
     Ok(())
 }
 
@@ -159,12 +218,10 @@ pub fn bus_store_block<D: Dmi>(
     ensures cut { IfErr result (IfCut (Leaves (BusBlockStoreCut size address value count) (D.seen link.old).far (D.seen link.new).far)) }
     ensures ready { OnOk result (IsReady (D.seen link.new).far) }
     ensures ready_again { IfErr result (IfMemory (IsReady (D.seen link.new).far)) }
+    ensures rises { Within (bus_store_rises count) (D.seen link.old) (D.seen link.new) }
     ensures keeps { Keeps access_why (D.seen link.old) (D.seen link.new) result }
 {
-    let done = store_run(link, size, address, count, value)?;
-    if done == count {
-        return Ok(());
-    }
-    store_awaited(link, size, address, done, count, value)?;
+    let values = [value; ELEMENTS_MOST];
+    bus_store_values(link, size, address, &values[..count as usize])?;
     Ok(())
 }

@@ -5,6 +5,7 @@ ghost use Rattle.probe_run.specs.Acts.{Did};
 ghost use Rattle.probe_access.specs.BusRuns.{BusEndFailed, BusEnded, BusFetched, BusFetching, BusPollFailed, BusPolled, Starting, access_number, addressed};
 ghost use Rattle.probe_access.specs.BusRuns.{read_started, setting, write_started};
 ghost use Rattle.probe_access.specs.Faults.{BrokeIn};
+ghost use Rattle.debug_model.specs.Rises.{Within};
 ghost use Rattle.debug_model.specs.Kept.{CanCall, Keeps};
 ghost use Rattle.probe_run.specs.Told.{Breaks, Fails, told};
 ghost use Rattle.probe_access.specs.Faults.{access_why};
@@ -55,10 +56,12 @@ fn setting_of(on_address: bool, size: Size) -> u32
 }
 
 /// Writes a word of `sbcs` and the address.
+#[tactic(auto, using(debug_model::proofs::RiseLemmas::within_then, debug_model::proofs::RiseLemmas::within_more))]
 pub fn set_up<D: Dmi>(link: &mut D, setting: u32, address: u64) -> Result<(), DmiFault>
     requires callable { CanCall (D.seen link.old) }
     ensures did { OnOk result (Did (told (D.seen link.old)) (addressed setting address) (told (D.seen link.new))) }
     ensures broke { IfErr result (Breaks (BrokeIn (Starting (addressed setting address))) (D.seen link.old) (D.seen link.new)) }
+    ensures rises { Within 3 (D.seen link.old) (D.seen link.new) }
     ensures keeps { Keeps Some (D.seen link.old) (D.seen link.new) result }
 {
     link.write(Sbcs::ADDRESS, setting)?;
@@ -72,6 +75,7 @@ pub fn start_read<D: Dmi>(link: &mut D, size: Size, address: u64) -> Result<(), 
     requires callable { CanCall (D.seen link.old) }
     ensures did { OnOk result (Did (told (D.seen link.old)) (read_started size address) (told (D.seen link.new))) }
     ensures broke { IfErr result (Breaks (BrokeIn (Starting (read_started size address))) (D.seen link.old) (D.seen link.new)) }
+    ensures rises { Within 3 (D.seen link.old) (D.seen link.new) }
     ensures keeps { Keeps Some (D.seen link.old) (D.seen link.new) result }
 {
     set_up(link, setting_of(true, size), address)?;
@@ -79,6 +83,7 @@ pub fn start_read<D: Dmi>(link: &mut D, size: Size, address: u64) -> Result<(), 
 }
 
 /// Starts a write: the address is written, and the value, whose lower half starts it.
+#[tactic(auto, using(debug_model::proofs::RiseLemmas::within_then, debug_model::proofs::RiseLemmas::within_more))]
 pub fn start_write<D: Dmi>(
     link: &mut D,
     size: Size,
@@ -88,6 +93,7 @@ pub fn start_write<D: Dmi>(
     requires callable { CanCall (D.seen link.old) }
     ensures did { OnOk result (Did (told (D.seen link.old)) (write_started size address value) (told (D.seen link.new))) }
     ensures broke { IfErr result (Breaks (BrokeIn (Starting (write_started size address value))) (D.seen link.old) (D.seen link.new)) }
+    ensures rises { Within 5 (D.seen link.old) (D.seen link.new) }
     ensures keeps { Keeps Some (D.seen link.old) (D.seen link.new) result }
 {
     set_up(link, setting_of(false, size), address)?;
@@ -101,6 +107,7 @@ pub fn poll_bus<D: Dmi>(link: &mut D) -> Result<u32, AccessFault>
     requires callable { CanCall (D.seen link.old) }
     ensures polled { IfOk result (λ last. BusPolled last (told (D.seen link.old)) (told (D.seen link.new))) }
     ensures failed { IfErr result (Fails BusPollFailed (D.seen link.old) (D.seen link.new)) }
+    ensures rises { Within 1 (D.seen link.old) (D.seen link.new) }
     ensures keeps { Keeps access_why (D.seen link.old) (D.seen link.new) result }
 {
     'polls: for _polls in 0..POLLS_MOST {
@@ -114,10 +121,12 @@ pub fn poll_bus<D: Dmi>(link: &mut D) -> Result<u32, AccessFault>
 }
 
 /// Polls for the end of the access of this address. `Memory` where it lies outside memory: the error is cleared.
+#[tactic(auto, using(debug_model::proofs::RiseLemmas::within_then, debug_model::proofs::RiseLemmas::within_more))]
 pub fn finish<D: Dmi>(link: &mut D, address: u64) -> Result<(), AccessFault>
     requires callable { CanCall (D.seen link.old) }
     ensures ended { OnOk result (BusEnded (told (D.seen link.old)) (told (D.seen link.new))) }
     ensures failed { IfErr result (Fails (BusEndFailed address) (D.seen link.old) (D.seen link.new)) }
+    ensures rises { Within 2 (D.seen link.old) (D.seen link.new) }
     ensures keeps { Keeps access_why (D.seen link.old) (D.seen link.new) result }
 {
     let last = poll_bus(link)?;
@@ -133,10 +142,12 @@ pub fn finish<D: Dmi>(link: &mut D, address: u64) -> Result<(), AccessFault>
 }
 
 /// Reads what the access has read.
+#[tactic(auto, using(debug_model::proofs::RiseLemmas::within_then, debug_model::proofs::RiseLemmas::within_more))]
 pub fn fetch<D: Dmi>(link: &mut D, size: Size) -> Result<u64, DmiFault>
     requires callable { CanCall (D.seen link.old) }
     ensures fetched { IfOk result (λ value. BusFetched size value (told (D.seen link.old)) (told (D.seen link.new))) }
     ensures broke { IfErr result (Breaks (BrokeIn BusFetching) (D.seen link.old) (D.seen link.new)) }
+    ensures rises { Within 2 (D.seen link.old) (D.seen link.new) }
     ensures keeps { Keeps Some (D.seen link.old) (D.seen link.new) result }
 {
     let low = link.read(Sbdata0::ADDRESS)?;

@@ -3,15 +3,16 @@
 ghost use Rattle.std.specs.Prelude.{◌≡◌, ◌≢◌, ◌⊎◌, ◌≤◌, ◌<◌, ◌+◌, ◌*◌, [], true, false, length, IfErr, IfOk, OnOk};
 ghost use Rattle.rv_model.specs.Memory.{is_aligned};
 ghost use Rattle.rv_model.specs.Size.{count_of};
+ghost use Rattle.debug_model.specs.Rises.{Within};
 ghost use Rattle.debug_model.specs.Command.{all_addresses, most_elements};
-ghost use Rattle.debug_model.specs.Kept.{CanCall, Keeps};
+ghost use Rattle.debug_model.specs.Kept.{CanCall, Keeps, Stands};
 ghost use Rattle.debug_model.specs.Told.{IsReady};
 ghost use Rattle.probe_access.specs.Accesses.{IfMemory};
 ghost use Rattle.probe_access.specs.BusBlockRuns.{BusCauses, RunRefused};
 ghost use Rattle.probe_access.specs.Blocks.{element_at};
 ghost use Rattle.probe_access.specs.BusBlocks.{BusBlockLoadCut, BusBlockLoadLeft, BusBlockLoadedAt};
-ghost use Rattle.probe_access.specs.BusStreams.{HandOutFell, HandedOut, RunFailed, RunFell, RunLoads, RunRead};
-ghost use Rattle.probe_access.specs.BusRuns.{bus_collided, bus_error, outside_error};
+ghost use Rattle.probe_access.specs.BusStreams.{HandOutFell, HandedOut, PolledOn, RunFailed, RunFell, RunLoads, RunRead, element_words};
+ghost use Rattle.probe_access.specs.BusRuns.{BusPollFailed, bus_collided, bus_error, outside_error};
 ghost use Rattle.probe_access.specs.Cuts.{IfCut, Leaves};
 ghost use Rattle.debug_model.specs.Addresses.{sbcs_address};
 ghost use Rattle.probe_access.specs.Spent.{DidAtMost, IfUnbroken};
@@ -19,8 +20,9 @@ ghost use Rattle.probe_access.specs.Faults.{access_why};
 ghost use Rattle.probe_run.specs.Told.{Fails, OnChip, told};
 
 use crate::blocks::ELEMENTS_MOST;
-use crate::bus_parts::{OUTSIDE, poll_bus, set_up};
-use crate::bus_streams::{Held, find, hand_out, read_call, read_elements, running_of};
+use crate::bus_parts::{OUTSIDE, poll_bus};
+use crate::bus_run_ends::{end_run, start_run};
+use crate::bus_streams::{Held, find, hand_out, read_elements};
 use crate::fault::AccessFault;
 use crate::odd::OddStatus;
 use arrayvec::ArrayVec;
@@ -34,6 +36,22 @@ pub fn element(size: Size, address: u64, number: u16, count: u16) -> u64
     ensures { result ≡ element_at size address number }
 {
     address + u64::from(number) * u64::from(size.count())
+}
+
+/// The last of `sbcs` behind a run: as it was shown already where that showed no access under way, or else polled for.
+#[tactic(auto, using(debug_model::proofs::RiseLemmas::within_none))]
+fn await_end<D: Dmi>(link: &mut D, shown: u32) -> Result<u32, AccessFault>
+    requires stands { Stands (D.seen link.old) }
+    ensures polled { IfOk result (λ last. PolledOn shown last (told (D.seen link.old)) (told (D.seen link.new))) }
+    ensures failed { IfErr result (Fails BusPollFailed (D.seen link.old) (D.seen link.new)) }
+    ensures rises { Within 1 (D.seen link.old) (D.seen link.new) }
+    ensures keeps { Keeps access_why (D.seen link.old) (D.seen link.new) result }
+{
+    let bus = Sbcs::from_word(shown);
+    if !bus.sbbusy {
+        return Ok(shown);
+    }
+    poll_bus(link)
 }
 
 /// Asks for so many elements and reads their words, the last behind the end of `sbreadondata`; and answers `sbcs` as it was at the end of the last access.
@@ -50,13 +68,13 @@ fn run<D: Dmi>(
     requires empty { into.old.items ≡ [] }
     ensures read { IfOk result (λ last. RunRead size address count last into.new.items (told (D.seen link.old)) (told (D.seen link.new))) }
     ensures failed { IfErr result (Fails (RunFailed size address count) (D.seen link.old) (D.seen link.new)) }
+    ensures rises { Within (2 * count + 6) (D.seen link.old) (D.seen link.new) }
     ensures keeps { Keeps access_why (D.seen link.old) (D.seen link.new) result }
 {
-    set_up(link, running_of(true, size), address)?;
+    start_run(link, size, address)?;
     read_elements(link, size, count - 1, into)?;
-    link.write(Sbcs::ADDRESS, running_of(false, size))?;
-    read_call(link, size, 1, into)?;
-    let last = poll_bus(link)?;
+    let shown = end_run(link, size, into)?;
+    let last = await_end(link, shown)?;
     Ok(last)
 }
 
@@ -128,6 +146,7 @@ fn try_run<D: Dmi>(
     requires empty { into.old.items ≡ [] }
     ensures loads { OnOk result (RunLoads size address count into.new.items (told (D.seen link.old)) (told (D.seen link.new))) }
     ensures fell { IfErr result (Fails (RunFell size address count into.new.items) (D.seen link.old) (D.seen link.new)) }
+    ensures rises { Within (2 * count + 11) (D.seen link.old) (D.seen link.new) }
     ensures keeps { Keeps access_why (D.seen link.old) (D.seen link.new) result }
 {
     let last = run(link, size, address, count, into)?;
@@ -176,13 +195,14 @@ pub fn load_run<D: Dmi>(
     ensures loaded { OnOk result (OnChip (BusBlockLoadedAt size address into.new.items) (D.seen link.old) (D.seen link.new)) }
     ensures loads { OnOk result (RunLoads size address count into.new.items (told (D.seen link.old)) (told (D.seen link.new))) }
     ensures refused { IfErr result (IfMemory (RunRefused size address into.new.items (told (D.seen link.old)) (told (D.seen link.new)))) }
-    ensures few { OnOk result (DidAtMost sbcs_address (2 * count + 9) (told (D.seen link.old)) (told (D.seen link.new))) }
-    ensures few_failed { IfErr result (IfUnbroken (DidAtMost sbcs_address (2 * count + 9) (told (D.seen link.old)) (told (D.seen link.new)))) }
+    ensures few { OnOk result (DidAtMost sbcs_address (element_words size * count + 9) (told (D.seen link.old)) (told (D.seen link.new))) }
+    ensures few_failed { IfErr result (IfUnbroken (DidAtMost sbcs_address (element_words size * count + 9) (told (D.seen link.old)) (told (D.seen link.new)))) }
     ensures left { IfErr result (BusBlockLoadLeft size address count into.new.items (D.seen link.old).far (D.seen link.new).far) }
     ensures causes { IfErr result (Fails BusCauses (D.seen link.old) (D.seen link.new)) }
     ensures cut { IfErr result (IfCut (Leaves (BusBlockLoadCut size address count into.new.items) (D.seen link.old).far (D.seen link.new).far)) }
     ensures ready { OnOk result (IsReady (D.seen link.new).far) }
     ensures ready_again { IfErr result (IfMemory (IsReady (D.seen link.new).far)) }
+    ensures rises { Within (2 * count + 11) (D.seen link.old) (D.seen link.new) }
     ensures keeps { Keeps access_why (D.seen link.old) (D.seen link.new) result }
 {
     match try_run(link, size, address, count, into) {

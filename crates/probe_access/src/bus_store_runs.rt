@@ -1,30 +1,26 @@
 //! A run of stores by the system bus, in which each write of the data starts one and the address rises behind it.
 
-ghost use Rattle.std.specs.Prelude.{◌≡◌, ◌≢◌, ◌≤◌, ◌+◌, ◌*◌, true, false, IfErr, IfNone, IfOk, IfSome, OnOk, Some};
+ghost use Rattle.std.specs.Prelude.{◌≡◌, ◌≢◌, ◌≤◌, ◌+◌, ◌*◌, length, true, false, IfErr, IfNone, IfOk, IfSome, OnOk, Some};
 ghost use Rattle.rv_model.specs.Size.{count_of};
+ghost use Rattle.debug_model.specs.Rises.{Within};
 ghost use Rattle.debug_model.specs.Command.{all_addresses, most_elements};
-ghost use Rattle.debug_model.specs.Kept.{CanCall, Keeps, Stands};
-ghost use Rattle.debug_model.specs.Many.{operations_most};
+ghost use Rattle.debug_model.specs.Kept.{CanCall, Keeps};
 ghost use Rattle.probe_access.specs.BusRuns.{Starting, bus_error, outside_error};
 ghost use Rattle.probe_access.specs.BusStoreStreams.{CountFell, RunStores, StoredBefore, StoresFailed, StoresFell, StoresPolled};
-ghost use Rattle.probe_access.specs.BusStoreStreams.{data_puts, stores_started, storing};
+ghost use Rattle.probe_access.specs.BusStoreStreams.{data_words, stores_started, storing};
 ghost use Rattle.probe_access.specs.BusStreams.{Misplaced};
-ghost use Rattle.probe_access.specs.Faults.{Among, BrokeIn, access_why};
+ghost use Rattle.probe_access.specs.Faults.{BrokeIn, access_why};
 ghost use Rattle.probe_run.specs.Acts.{Did};
 ghost use Rattle.probe_run.specs.Told.{Breaks, Fails, told};
 
 use crate::bus_parts::{OUTSIDE, access_of, poll_bus, set_up};
 use crate::bus_runs::{element, is_fine, is_other};
-use crate::bus_streams::{find, next_call};
-use crate::doubles::{high_word, low_word};
+use crate::bus_store_words::{upper_before, write_elements};
+use crate::bus_streams::find;
 use crate::fault::AccessFault;
 use crate::odd::OddStatus;
-use arrayvec::ArrayVec;
-use debug_model::{Dmi, DmiFault, DmiOp, OPERATIONS_MOST, Sbcs, Sbdata0, Sbdata1};
+use debug_model::{Dmi, DmiFault, Sbcs, Sbdata1};
 use rv_model::Size;
-
-/// How many elements are stored in one call at most: each takes one operation.
-const STORES_A_CALL: u16 = 128;
 
 /// Each bit of `sberror`: a write of them clears it.
 const EVERY_ERROR: u8 = 7;
@@ -48,69 +44,36 @@ fn storing_of(size: Size) -> u32
     bus.word()
 }
 
-/// Writes what stays throughout a run: `sbcs`, the address, and the upper half of the value.
+/// Writes what a run begins with: `sbcs`, the address, and an upper half of the data.
 pub fn start_stores<D: Dmi>(
     link: &mut D,
     size: Size,
     address: u64,
-    value: u64,
+    upper: u32,
 ) -> Result<(), DmiFault>
     requires callable { CanCall (D.seen link.old) }
-    ensures did { OnOk result (Did (told (D.seen link.old)) (stores_started size address value) (told (D.seen link.new))) }
-    ensures broke { IfErr result (Breaks (BrokeIn (Starting (stores_started size address value))) (D.seen link.old) (D.seen link.new)) }
+    ensures did { OnOk result (Did (told (D.seen link.old)) (stores_started size address upper) (told (D.seen link.new))) }
+    ensures broke { IfErr result (Breaks (BrokeIn (Starting (stores_started size address upper))) (D.seen link.old) (D.seen link.new)) }
+    ensures rises { Within 4 (D.seen link.old) (D.seen link.new) }
     ensures keeps { Keeps Some (D.seen link.old) (D.seen link.new) result }
 {
     set_up(link, storing_of(size), address)?;
-    link.write(Sbdata1::ADDRESS, high_word(value))?;
+    link.write(Sbdata1::ADDRESS, upper)?;
     Ok(())
 }
 
-/// Writes the lower half of the data so many times, at most 128, in one call.
-fn write_call<D: Dmi>(link: &mut D, low: u32, number: u16) -> Result<(), DmiFault>
+/// Asks for the stores of a list of values, with no poll between them, and answers `sbcs` as it was at the end of the last.
+fn run<D: Dmi>(link: &mut D, size: Size, address: u64, values: &[u64]) -> Result<u32, AccessFault>
     requires callable { CanCall (D.seen link.old) }
-    requires some { 1 ≤ number }
-    requires few { number ≤ operations_most }
-    ensures did { OnOk result (Did (told (D.seen link.old)) (data_puts low number) (told (D.seen link.new))) }
-    ensures broke { IfErr result (Breaks (BrokeIn (Among (Starting (data_puts low number)))) (D.seen link.old) (D.seen link.new)) }
-    ensures keeps { Keeps Some (D.seen link.old) (D.seen link.new) result }
-{
-    let operations = [DmiOp::Write(Sbdata0::ADDRESS, low); OPERATIONS_MOST];
-    let mut words = ArrayVec::new();
-    link.many(&operations[..number as usize], &mut words)?;
-    Ok(())
-}
-
-/// Writes the lower half of the data so many times, in calls of at most 128.
-fn write_elements<D: Dmi>(link: &mut D, low: u32, number: u16) -> Result<(), DmiFault>
-    requires stands { Stands (D.seen link.old) }
-    ensures did { OnOk result (Did (told (D.seen link.old)) (data_puts low number) (told (D.seen link.new))) }
-    ensures broke { IfErr result (Breaks (BrokeIn (Among (Starting (data_puts low number)))) (D.seen link.old) (D.seen link.new)) }
-    ensures keeps { Keeps Some (D.seen link.old) (D.seen link.new) result }
-{
-    let mut left = number;
-    'calls: while left > 0 {
-        let now = next_call(left, STORES_A_CALL);
-        write_call(link, low, now)?;
-        left -= now;
-    }
-    Ok(())
-}
-
-/// Asks for so many stores, with no poll between them, and answers `sbcs` as it was at the end of the last.
-fn run<D: Dmi>(
-    link: &mut D,
-    size: Size,
-    address: u64,
-    count: u16,
-    value: u64,
-) -> Result<u32, AccessFault>
-    requires callable { CanCall (D.seen link.old) }
-    ensures polled { IfOk result (λ last. StoresPolled size address value count last (told (D.seen link.old)) (told (D.seen link.new))) }
-    ensures failed { IfErr result (Fails (StoresFailed size address value count) (D.seen link.old) (D.seen link.new)) }
+    requires some { 1 ≤ length values.now }
+    requires room { length values.now ≤ most_elements }
+    ensures polled { IfOk result (λ last. StoresPolled size address values.now (length values.now) last (told (D.seen link.old)) (told (D.seen link.new))) }
+    ensures failed { IfErr result (Fails (StoresFailed size address values.now (length values.now)) (D.seen link.old) (D.seen link.new)) }
+    ensures rises { Within (data_words values.now + 5) (D.seen link.old) (D.seen link.new) }
     ensures keeps { Keeps access_why (D.seen link.old) (D.seen link.new) result }
 {
-    start_stores(link, size, address, value)?;
-    write_elements(link, low_word(value), count)?;
+    start_stores(link, size, address, upper_before(values, 0))?;
+    write_elements(link, values)?;
     let last = poll_bus(link)?;
     Ok(last)
 }
@@ -156,22 +119,25 @@ fn count_stored(
     Err(AccessFault::Memory(element(size, address, done, count)))
 }
 
-/// Stores elements in a run, up to the first that was asked for too early, and answers how many. `Memory` where memory refused one.
+/// Stores a list of values in a run, up to the first that was asked for too early, and answers how many. `Memory` where memory refused one.
 pub fn store_run<D: Dmi>(
     link: &mut D,
     size: Size,
     address: u64,
-    count: u16,
-    value: u64,
+    values: &[u64],
 ) -> Result<u16, AccessFault>
     requires callable { CanCall (D.seen link.old) }
-    requires room { count ≤ most_elements }
-    requires ends { address + count * count_of size ≤ all_addresses }
-    ensures stores { IfOk result (λ done. RunStores size address value count done (told (D.seen link.old)) (told (D.seen link.new))) }
-    ensures fell { IfErr result (Fails (StoresFell size address value count) (D.seen link.old) (D.seen link.new)) }
+    requires some { 1 ≤ length values.now }
+    requires room { length values.now ≤ most_elements }
+    requires ends { address + length values.now * count_of size ≤ all_addresses }
+    ensures stores { IfOk result
+        (λ done. RunStores size address values.now (length values.now) done (told (D.seen link.old)) (told (D.seen link.new))) }
+    ensures fell { IfErr result (Fails (StoresFell size address values.now (length values.now)) (D.seen link.old) (D.seen link.new)) }
+    ensures rises { Within (data_words values.now + 10) (D.seen link.old) (D.seen link.new) }
     ensures keeps { Keeps access_why (D.seen link.old) (D.seen link.new) result }
 {
-    let last = run(link, size, address, count, value)?;
+    let count = values.len() as u16;
+    let last = run(link, size, address, values)?;
     if is_fine(last) {
         return Ok(count);
     }

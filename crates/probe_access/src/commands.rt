@@ -3,6 +3,7 @@ ghost use Rattle.debug_model.specs.ModuleWords.{command_word};
 ghost use Rattle.probe_access.specs.CommandRuns.{CommandFailed, EndFailed, EndedFrom, PolledFrom, RanCommand};
 ghost use Rattle.probe_access.specs.RegisterAccess.{program_command, transfer_command};
 ghost use Rattle.probe_access.specs.RegisterRuns.{double_written};
+ghost use Rattle.debug_model.specs.Rises.{Within};
 ghost use Rattle.debug_model.specs.Kept.{CanCall, Keeps, Stands};
 ghost use Rattle.probe_run.specs.Told.{Fails, told};
 ghost use Rattle.probe_access.specs.Faults.{access_why};
@@ -56,6 +57,7 @@ fn await_end<D: Dmi>(link: &mut D, first: u32) -> Result<u32, AccessFault>
     requires stands { Stands (D.seen link.old) }
     ensures polled { IfOk result (λ last. PolledFrom first last (told (D.seen link.old)) (told (D.seen link.new))) }
     ensures failed { IfErr result (Fails (EndFailed first) (D.seen link.old) (D.seen link.new)) }
+    ensures rises { Within 3 (D.seen link.old) (D.seen link.new) }
     ensures keeps { Keeps access_why (D.seen link.old) (D.seen link.new) result }
 {
     let mut word = first;
@@ -72,10 +74,12 @@ fn await_end<D: Dmi>(link: &mut D, first: u32) -> Result<u32, AccessFault>
 }
 
 /// Polls for the end of a command, whose first poll showed `first`, and answers `abstractcs` as it was then. An error that it shows is cleared.
+#[tactic(auto, using(debug_model::proofs::RiseLemmas::within_then, debug_model::proofs::RiseLemmas::within_more))]
 pub fn end_command<D: Dmi>(link: &mut D, first: u32) -> Result<u32, AccessFault>
     requires stands { Stands (D.seen link.old) }
     ensures ended { IfOk result (λ last. EndedFrom first last (told (D.seen link.old)) (told (D.seen link.new))) }
     ensures failed { IfErr result (Fails (EndFailed first) (D.seen link.old) (D.seen link.new)) }
+    ensures rises { Within 4 (D.seen link.old) (D.seen link.new) }
     ensures keeps { Keeps access_why (D.seen link.old) (D.seen link.new) result }
 {
     let last = await_end(link, first)?;
@@ -89,10 +93,12 @@ pub fn end_command<D: Dmi>(link: &mut D, first: u32) -> Result<u32, AccessFault>
 
 /// Writes `command` and polls for the command's end, and answers `abstractcs` as it was then. An error that it shows is cleared.
 /// The first poll goes with the command.
+#[tactic(auto, using(debug_model::proofs::RiseLemmas::within_then, debug_model::proofs::RiseLemmas::within_more))]
 pub fn run_command<D: Dmi>(link: &mut D, command: AbstractCommand) -> Result<u32, AccessFault>
     requires callable { CanCall (D.seen link.old) }
     ensures ran { IfOk result (λ last. RanCommand [] (command_word command) last (told (D.seen link.old)) (told (D.seen link.new))) }
     ensures failed { IfErr result (Fails (CommandFailed [] (command_word command)) (D.seen link.old) (D.seen link.new)) }
+    ensures rises { Within 6 (D.seen link.old) (D.seen link.new) }
     ensures keeps { Keeps access_why (D.seen link.old) (D.seen link.new) result }
 {
     let operations = [
@@ -106,6 +112,7 @@ pub fn run_command<D: Dmi>(link: &mut D, command: AbstractCommand) -> Result<u32
 }
 
 /// The same behind this value in the data words, which goes with the command.
+#[tactic(auto, using(debug_model::proofs::RiseLemmas::within_then, debug_model::proofs::RiseLemmas::within_more))]
 pub fn run_with<D: Dmi>(
     link: &mut D,
     value: u64,
@@ -114,6 +121,7 @@ pub fn run_with<D: Dmi>(
     requires callable { CanCall (D.seen link.old) }
     ensures ran { IfOk result (λ last. RanCommand (double_written value) (command_word command) last (told (D.seen link.old)) (told (D.seen link.new))) }
     ensures failed { IfErr result (Fails (CommandFailed (double_written value) (command_word command)) (D.seen link.old) (D.seen link.new)) }
+    ensures rises { Within 8 (D.seen link.old) (D.seen link.new) }
     ensures keeps { Keeps access_why (D.seen link.old) (D.seen link.new) result }
 {
     let operations = [

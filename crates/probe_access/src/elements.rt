@@ -6,6 +6,7 @@ ghost use Rattle.probe_access.specs.CommandRuns.{CommandFailed, RanCommand};
 ghost use Rattle.probe_access.specs.ElementRuns.{HandFailed, HandedBy, RunFailed, StartFailed, Started, block_program};
 ghost use Rattle.probe_access.specs.RegisterAccess.{next_command, next_word};
 ghost use Rattle.probe_access.specs.RegisterRuns.{RanTo, no_error};
+ghost use Rattle.debug_model.specs.Rises.{Within};
 ghost use Rattle.debug_model.specs.Kept.{CanCall, Keeps};
 ghost use Rattle.probe_run.specs.Told.{Fails, told};
 ghost use Rattle.probe_access.specs.Faults.{access_why};
@@ -43,10 +44,12 @@ pub fn next_command() -> AbstractCommand
 }
 
 /// Writes the program of a block, and executes it once. Answers `abstractcs` as the last poll showed it; an error is cleared.
+#[tactic(auto, using(debug_model::proofs::RiseLemmas::within_then, debug_model::proofs::RiseLemmas::within_more))]
 fn run_first<D: Dmi>(link: &mut D, instruction: u32, size: Size) -> Result<u32, AccessFault>
     requires callable { CanCall (D.seen link.old) }
     ensures ran { IfOk result (λ last. RanCommand (block_program instruction size) next_word last (told (D.seen link.old)) (told (D.seen link.new))) }
     ensures failed { IfErr result (Fails (CommandFailed (block_program instruction size) next_word) (D.seen link.old) (D.seen link.new)) }
+    ensures rises { Within 9 (D.seen link.old) (D.seen link.new) }
     ensures keeps { Keeps access_why (D.seen link.old) (D.seen link.new) result }
 {
     let operations = [
@@ -72,6 +75,7 @@ fn first_element<D: Dmi>(
     requires callable { CanCall (D.seen link.old) }
     ensures ran { OnOk result (RanTo (block_program instruction size) next_word no_error (told (D.seen link.old)) (told (D.seen link.new))) }
     ensures failed { IfErr result (Fails (RunFailed (block_program instruction size) at) (D.seen link.old) (D.seen link.new)) }
+    ensures rises { Within 9 (D.seen link.old) (D.seen link.new) }
     ensures keeps { Keeps access_why (D.seen link.old) (D.seen link.new) result }
 {
     let last = run_first(link, instruction, size)?;
@@ -83,6 +87,7 @@ fn first_element<D: Dmi>(
 }
 
 /// Writes the address into x8 and the program of a block, and makes its first access.
+#[tactic(auto, using(debug_model::proofs::RiseLemmas::within_then, debug_model::proofs::RiseLemmas::within_more))]
 pub fn start_block<D: Dmi>(
     link: &mut D,
     instruction: u32,
@@ -92,6 +97,7 @@ pub fn start_block<D: Dmi>(
     requires callable { CanCall (D.seen link.old) }
     ensures started { OnOk result (Started instruction size address (told (D.seen link.old)) (told (D.seen link.new))) }
     ensures failed { IfErr result (Fails (StartFailed instruction size address) (D.seen link.old) (D.seen link.new)) }
+    ensures rises { Within 17 (D.seen link.old) (D.seen link.new) }
     ensures keeps { Keeps access_why (D.seen link.old) (D.seen link.new) result }
 {
     write_register(link, X8, address)?;
@@ -104,6 +110,7 @@ pub fn next_element<D: Dmi>(link: &mut D, at: u64) -> Result<(), AccessFault>
     requires callable { CanCall (D.seen link.old) }
     ensures ran { OnOk result (RanTo [] next_word no_error (told (D.seen link.old)) (told (D.seen link.new))) }
     ensures failed { IfErr result (Fails (RunFailed [] at) (D.seen link.old) (D.seen link.new)) }
+    ensures rises { Within 6 (D.seen link.old) (D.seen link.new) }
     ensures keeps { Keeps access_why (D.seen link.old) (D.seen link.new) result }
 {
     let last = run_command(link, next_command())?;
@@ -115,10 +122,12 @@ pub fn next_element<D: Dmi>(link: &mut D, at: u64) -> Result<(), AccessFault>
 }
 
 /// Hands out what was loaded, and loads the next element. Where memory refuses that, what was loaded is handed out nevertheless.
+#[tactic(auto, using(debug_model::proofs::RiseLemmas::within_then, debug_model::proofs::RiseLemmas::within_more))]
 pub fn hand_next<D: Dmi>(link: &mut D) -> Result<Handed, AccessFault>
     requires callable { CanCall (D.seen link.old) }
     ensures handed { IfOk result (λ handed. HandedBy handed.refused handed.value (told (D.seen link.old)) (told (D.seen link.new))) }
     ensures failed { IfErr result (Fails HandFailed (D.seen link.old) (D.seen link.new)) }
+    ensures rises { Within 8 (D.seen link.old) (D.seen link.new) }
     ensures keeps { Keeps access_why (D.seen link.old) (D.seen link.new) result }
 {
     let last = run_command(link, next_command())?;

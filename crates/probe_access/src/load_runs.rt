@@ -2,8 +2,9 @@
 //! read of data0 takes the word that was handed out and starts it again (RISC-V Debug Specification 1.0, "Abstract Command Autoexec"). An element of at
 //! most 4 bytes was loaded with its upper bits 0, so data1 is read for elements of 8 bytes alone.
 
-ghost use Rattle.std.specs.Prelude.{◌≡◌, ◌≤◌, ◌<◌, ◌+◌, ◌*◌, ◌^◌, ◌++◌, ◌∷◌, [], length, take, drop, None, IfErr, IfOk, IfSome, OnOk};
+ghost use Rattle.std.specs.Prelude.{◌≡◌, ◌≤◌, ◌<◌, ◌+◌, ◌*◌, ◌^◌, ◌++◌, ◌∷◌, [], true, length, take, drop, None, IfErr, IfOk, IfSome, OnOk};
 ghost use Rattle.rv_model.specs.Size.{count_of};
+ghost use Rattle.debug_model.specs.Rises.{Within};
 ghost use Rattle.debug_model.specs.Addresses.{abstractauto_address};
 ghost use Rattle.debug_model.specs.Command.{all_addresses, most_elements};
 ghost use Rattle.debug_model.specs.Kept.{CanCall, Keeps};
@@ -110,6 +111,7 @@ fn ask_loads<D: Dmi>(
         (told (D.seen link.old)) (told (D.seen link.new))) }
     ensures count { OnOk result (length words.new.items ≡ run.more * (run.looks + own_words (is_wide size)) + 3) }
     ensures failed { IfErr result (Fails (LoadsAsking (is_wide size) run.looks run.more) (D.seen link.old) (D.seen link.new)) }
+    ensures rises { Within (run.more * (run.looks + own_words (is_wide size)) + 7) (D.seen link.old) (D.seen link.new) }
     ensures keeps { Keeps access_why (D.seen link.old) (D.seen link.new) result }
 {
     let mut operations = [DmiOp::Read(Abstractcs::ADDRESS); OPERATIONS_MOST];
@@ -134,6 +136,7 @@ fn run_loads<D: Dmi>(
         (told (D.seen link.old)) (told (D.seen link.new))) }
     ensures count { OnOk result (length words.new.items ≡ run.more * (run.looks + own_words (is_wide size)) + 3) }
     ensures failed { IfErr result (Fails (AskLoadsFailed (is_wide size) run.looks run.more) (D.seen link.old) (D.seen link.new)) }
+    ensures rises { Within (run.more * (run.looks + own_words (is_wide size)) + 8) (D.seen link.old) (D.seen link.new) }
     ensures keeps { Keeps access_why (D.seen link.old) (D.seen link.new) result }
 {
     let last = ask_loads(link, size, run, words)?;
@@ -197,8 +200,10 @@ fn load_run<D: Dmi>(
     requires ends { address + count * count_of size ≤ all_addresses }
     ensures handed { OnOk result (HandedMore size address count into.old.items into.new.items (told (D.seen link.old)) (told (D.seen link.new))) }
     ensures more { OnOk result (length into.old.items < length into.new.items) }
+    ensures whole { IfOk result (λ whole. whole ≡ true → length into.new.items ≡ length into.old.items + run.more + 1) }
     ensures most { OnOk result (length into.new.items + 1 < count) }
     ensures failed { IfErr result (Fails (HandingFailed size address count into.old.items into.new.items) (D.seen link.old) (D.seen link.new)) }
+    ensures rises { Within (run.more * (run.looks + own_words (is_wide size)) + 18) (D.seen link.old) (D.seen link.new) }
     ensures keeps { Keeps access_why (D.seen link.old) (D.seen link.new) result }
 {
     let handed = into.len() as u16;
@@ -249,6 +254,7 @@ pub fn load_front<D: Dmi>(
     ensures on { OnOk result (LoadsOn size address count (told (D.seen link.old)) into.new.items (told (D.seen link.new))) }
     ensures most { OnOk result (length into.new.items < count) }
     ensures failed { IfErr result (Fails (LoadsFailed size address count into.new.items) (D.seen link.old) (D.seen link.new)) }
+    ensures rises { Within (74 * count) (D.seen link.old) (D.seen link.new) }
     ensures keeps { Keeps access_why (D.seen link.old) (D.seen link.new) result }
 {
     start_block(link, element_load_of(size), size, address)?;

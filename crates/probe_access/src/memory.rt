@@ -4,6 +4,7 @@ ghost use Rattle.probe_access.specs.Accesses.{AccessLeft, IfMemory, LoadRefused,
 ghost use Rattle.probe_access.specs.BusRuns.{cut_to};
 ghost use Rattle.probe_access.specs.Cuts.{AccessLeftOff, IfCut, Leaves, LoadLeaves, Scratched, StoreLeaves};
 ghost use Rattle.probe_access.specs.MemoryRuns.{Around, AroundFailed, LoadRun, LoadRunFailed, StoreFailedInside, StoredInside, TakeFailed, Taken};
+ghost use Rattle.debug_model.specs.Rises.{Within};
 ghost use Rattle.debug_model.specs.Kept.{CanCall, Keeps};
 ghost use Rattle.probe_run.specs.Told.{Fails, OnChip, told};
 ghost use Rattle.probe_access.specs.Faults.{access_why};
@@ -19,10 +20,12 @@ use probe_run::Halted;
 use rv_model::Size;
 
 /// Takes what was loaded from x8 of the selected hart, and puts x8 back: in one call, and by calls of their own where that shows an error.
+#[tactic(auto, using(debug_model::proofs::RiseLemmas::within_then, debug_model::proofs::RiseLemmas::within_more))]
 fn take_loaded<D: Dmi>(link: &mut D, x8: u64) -> Result<u64, AccessFault>
     requires callable { CanCall (D.seen link.old) }
     ensures taken { IfOk result (λ value. Taken x8 value (told (D.seen link.old)) (told (D.seen link.new))) }
     ensures failed { IfErr result (Fails (TakeFailed x8) (D.seen link.old) (D.seen link.new)) }
+    ensures rises { Within 35 (D.seen link.old) (D.seen link.new) }
     ensures keeps { Keeps access_why (D.seen link.old) (D.seen link.new) result }
 {
     match swap_at_once(link, X8, x8)? {
@@ -36,6 +39,7 @@ fn take_loaded<D: Dmi>(link: &mut D, x8: u64) -> Result<u64, AccessFault>
 }
 
 /// Loads from memory by x8 of the selected hart, which has the address and then what was loaded, and is put back.
+#[tactic(auto, using(debug_model::proofs::RiseLemmas::within_then, debug_model::proofs::RiseLemmas::within_more))]
 pub(crate) fn load_around<D: Dmi>(
     link: &mut D,
     size: Size,
@@ -44,6 +48,7 @@ pub(crate) fn load_around<D: Dmi>(
     requires callable { CanCall (D.seen link.old) }
     ensures loaded { IfOk result (λ value. LoadRun size address value (told (D.seen link.old)) (told (D.seen link.new))) }
     ensures failed { IfErr result (Fails (LoadRunFailed size address) (D.seen link.old) (D.seen link.new)) }
+    ensures rises { Within 61 (D.seen link.old) (D.seen link.new) }
     ensures keeps { Keeps access_why (D.seen link.old) (D.seen link.new) result }
 {
     let x8 = read_register(link, X8)?;
@@ -63,6 +68,7 @@ pub(crate) fn load_around<D: Dmi>(
 }
 
 /// Stores to memory by the selected hart, whose x8 and x9 are put back.
+#[tactic(auto, using(debug_model::proofs::RiseLemmas::within_then, debug_model::proofs::RiseLemmas::within_more))]
 pub(crate) fn store_around<D: Dmi>(
     link: &mut D,
     size: Size,
@@ -73,6 +79,7 @@ pub(crate) fn store_around<D: Dmi>(
     ensures stored { OnOk result (Around (StoredInside size address value) (told (D.seen link.old)) (told (D.seen link.new))) }
     ensures failed { IfErr result
         (Fails (AroundFailed (StoredInside size address value) (StoreFailedInside size address value)) (D.seen link.old) (D.seen link.new)) }
+    ensures rises { Within 66 (D.seen link.old) (D.seen link.new) }
     ensures keeps { Keeps access_why (D.seen link.old) (D.seen link.new) result }
 {
     let scratch = save_scratch(link)?;
@@ -122,6 +129,7 @@ pub fn load<D: Dmi>(
     ensures cut { IfErr result (IfCut (Leaves (AccessLeftOff Scratched LoadLeaves halted.now.number) (D.seen link.old).far (D.seen link.new).far)) }
     ensures serving { OnOk result (Serving halted.now.number (D.seen link.new).far) }
     ensures serving_still { IfErr result (IfMemory (Serving halted.now.number (D.seen link.new).far)) }
+    ensures rises { Within 61 (D.seen link.old) (D.seen link.new) }
     ensures keeps { Keeps access_why (D.seen link.old) (D.seen link.new) result }
 {
     let _halted = halted;
@@ -150,6 +158,7 @@ pub fn store<D: Dmi>(
         (IfCut (Leaves (AccessLeftOff Scratched (StoreLeaves size address value) halted.now.number) (D.seen link.old).far (D.seen link.new).far)) }
     ensures serving { OnOk result (Serving halted.now.number (D.seen link.new).far) }
     ensures serving_still { IfErr result (IfMemory (Serving halted.now.number (D.seen link.new).far)) }
+    ensures rises { Within 66 (D.seen link.old) (D.seen link.new) }
     ensures keeps { Keeps access_why (D.seen link.old) (D.seen link.new) result }
 {
     let _halted = halted;

@@ -2,6 +2,7 @@ ghost use Rattle.std.specs.Prelude.{◌≡◌, ◌≤◌, ◌<◌, ◌^◌, IfEr
 ghost use Rattle.probe_access.specs.CommandRuns.{CommandFailed, RanCommand};
 ghost use Rattle.probe_access.specs.MemoryRuns.{PerformFailed, Performed, program_set};
 ghost use Rattle.probe_access.specs.RegisterAccess.{advance_word, element_load_word, load_word, program_word, store_word};
+ghost use Rattle.debug_model.specs.Rises.{Within};
 ghost use Rattle.debug_model.specs.Kept.{CanCall, Keeps};
 ghost use Rattle.probe_run.specs.Told.{Fails, told};
 ghost use Rattle.probe_access.specs.Faults.{access_why};
@@ -110,10 +111,12 @@ pub fn store_of(size: Size) -> u32
 
 /// Writes an instruction and `ebreak` into the program buffer and this address into x8, and executes it: all goes with the first poll for its end.
 /// Answers `abstractcs` as the last poll showed it; an error is cleared.
+#[tactic(auto, using(debug_model::proofs::RiseLemmas::within_then, debug_model::proofs::RiseLemmas::within_more))]
 fn run_program<D: Dmi>(link: &mut D, instruction: u32, address: u64) -> Result<u32, AccessFault>
     requires callable { CanCall (D.seen link.old) }
     ensures ran { IfOk result (λ last. RanCommand (program_set instruction address) program_word last (told (D.seen link.old)) (told (D.seen link.new))) }
     ensures failed { IfErr result (Fails (CommandFailed (program_set instruction address) program_word) (D.seen link.old) (D.seen link.new)) }
+    ensures rises { Within 10 (D.seen link.old) (D.seen link.new) }
     ensures keeps { Keeps access_why (D.seen link.old) (D.seen link.new) result }
 {
     let operations = [
@@ -135,6 +138,7 @@ pub fn perform<D: Dmi>(link: &mut D, instruction: u32, address: u64) -> Result<(
     requires callable { CanCall (D.seen link.old) }
     ensures performed { OnOk result (Performed instruction address 0 (told (D.seen link.old)) (told (D.seen link.new))) }
     ensures failed { IfErr result (Fails (PerformFailed instruction address) (D.seen link.old) (D.seen link.new)) }
+    ensures rises { Within 10 (D.seen link.old) (D.seen link.new) }
     ensures keeps { Keeps access_why (D.seen link.old) (D.seen link.new) result }
 {
     let last = run_program(link, instruction, address)?;

@@ -4,6 +4,7 @@ ghost use Rattle.probe_access.specs.Cuts.{AccessLeftOff, IfCut, LeftAside, Leave
 ghost use Rattle.probe_access.specs.Pending.{GetFailed, PendingReadAt, RegisterCutAt, RegisterGot, RegisterGotAt, is_mip};
 ghost use Rattle.probe_access.specs.RegisterRuns.{ReadApart, ReadApartFailed, ReadFailed, RegisterRead, RegisterWritten, WriteFailed};
 ghost use Rattle.probe_access.specs.Registers.{RegisterReadAt, IfRegister, RegisterLeft, RegisterWrittenAt};
+ghost use Rattle.debug_model.specs.Rises.{Within};
 ghost use Rattle.debug_model.specs.Kept.{CanCall, Keeps};
 ghost use Rattle.probe_run.specs.Told.{Fails, OnChip, told};
 ghost use Rattle.probe_access.specs.Faults.{access_why};
@@ -27,6 +28,7 @@ fn pending<D: Dmi>(link: &mut D, halted: &Halted) -> Result<u64, AccessFault>
         (IfCut (Leaves (AccessLeftOff Unchanged LoadLeaves halted.now.number) (D.seen link.old).far (D.seen link.new).far)) }
     ensures serving { OnOk result (Serving halted.now.number (D.seen link.new).far) }
     ensures serving_still { IfErr result (IfRegister (Serving halted.now.number (D.seen link.new).far)) }
+    ensures rises { Within 8 (D.seen link.old) (D.seen link.new) }
     ensures keeps { Keeps access_why (D.seen link.old) (D.seen link.new) result }
 {
     let _halted = halted;
@@ -47,6 +49,7 @@ pub fn held_reg<D: Dmi>(link: &mut D, halted: &Halted, register: u16) -> Result<
     ensures cut { IfErr result (IfCut (Leaves (LeftAside Unchanged halted.now.number) (D.seen link.old).far (D.seen link.new).far)) }
     ensures serving { OnOk result (Serving halted.now.number (D.seen link.new).far) }
     ensures serving_still { IfErr result (IfRegister (Serving halted.now.number (D.seen link.new).far)) }
+    ensures rises { Within 16 (D.seen link.old) (D.seen link.new) }
     ensures keeps { Keeps access_why (D.seen link.old) (D.seen link.new) result }
 {
     let _halted = halted;
@@ -57,6 +60,7 @@ pub fn held_reg<D: Dmi>(link: &mut D, halted: &Halted, register: u16) -> Result<
 /// The value of a register of the halted hart, which is selected: x0 to x31 from 0x1000 on, `pc` as `dpc`, others by their CSR number
 /// (RISC-V Debug Specification 1.0, "Access Register"). `Register` where there is no such register. A read of `mip` is one access to memory,
 /// and of another register none.
+#[tactic(auto, using(debug_model::proofs::RiseLemmas::within_then, debug_model::proofs::RiseLemmas::within_more))]
 pub fn reg<D: Dmi>(link: &mut D, halted: &Halted, register: u16) -> Result<u64, AccessFault>
     requires callable { CanCall (D.seen link.old) }
     requires serving { Serving halted.now.number (D.seen link.old).far }
@@ -67,6 +71,7 @@ pub fn reg<D: Dmi>(link: &mut D, halted: &Halted, register: u16) -> Result<u64, 
     ensures cut { IfErr result (IfCut (Leaves (RegisterCutAt register halted.now.number) (D.seen link.old).far (D.seen link.new).far)) }
     ensures serving { OnOk result (Serving halted.now.number (D.seen link.new).far) }
     ensures serving_still { IfErr result (IfRegister (Serving halted.now.number (D.seen link.new).far)) }
+    ensures rises { Within 16 (D.seen link.old) (D.seen link.new) }
     ensures keeps { Keeps access_why (D.seen link.old) (D.seen link.new) result }
 {
     if register == register_number::MIP {
@@ -92,6 +97,7 @@ pub fn set_reg<D: Dmi>(
     ensures cut { IfErr result (IfCut (Leaves (LeftAside (MaybeWritten register value) halted.now.number) (D.seen link.old).far (D.seen link.new).far)) }
     ensures serving { OnOk result (Serving halted.now.number (D.seen link.new).far) }
     ensures serving_still { IfErr result (IfRegister (Serving halted.now.number (D.seen link.new).far)) }
+    ensures rises { Within 8 (D.seen link.old) (D.seen link.new) }
     ensures keeps { Keeps access_why (D.seen link.old) (D.seen link.new) result }
 {
     let _halted = halted;

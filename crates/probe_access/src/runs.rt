@@ -3,6 +3,7 @@
 
 ghost use Rattle.std.specs.Prelude.{◌≡◌, ◌≢◌, ◌⊎◌, ◌≤◌, ◌<◌, ◌+◌, ◌*◌, ◌^◌, ◌++◌, ◌∷◌, [], length, take, None, IfErr, IfOk, IfSome};
 ghost use Rattle.rv_model.specs.Size.{count_of};
+ghost use Rattle.debug_model.specs.Rises.{Within};
 ghost use Rattle.debug_model.specs.Addresses.{abstractauto_address};
 ghost use Rattle.debug_model.specs.Command.{all_addresses, most_elements};
 ghost use Rattle.debug_model.specs.Kept.{CanCall, Keeps};
@@ -101,6 +102,7 @@ fn ask_elements<D: Dmi>(link: &mut D, run: Run) -> Result<u32, AccessFault>
     requires few { run.more * (run.looks + 1) ≤ more_most }
     ensures asked { IfOk result (λ last. AskedOnce run.more last (told (D.seen link.old)) (told (D.seen link.new))) }
     ensures failed { IfErr result (Fails (AskingFailed run.looks run.more) (D.seen link.old) (D.seen link.new)) }
+    ensures rises { Within (run.more * (run.looks + 1) + 7) (D.seen link.old) (D.seen link.new) }
     ensures keeps { Keeps access_why (D.seen link.old) (D.seen link.new) result }
 {
     let mut operations = [DmiOp::Read(Abstractcs::ADDRESS); OPERATIONS_MOST];
@@ -117,6 +119,7 @@ fn run_elements<D: Dmi>(link: &mut D, run: Run) -> Result<u32, AccessFault>
     requires few { run.more * (run.looks + 1) ≤ more_most }
     ensures asked { IfOk result (λ last. Asked run.more last (told (D.seen link.old)) (told (D.seen link.new))) }
     ensures failed { IfErr result (Fails (AskedFailed run.looks run.more) (D.seen link.old) (D.seen link.new)) }
+    ensures rises { Within (run.more * (run.looks + 1) + 8) (D.seen link.old) (D.seen link.new) }
     ensures keeps { Keeps access_why (D.seen link.old) (D.seen link.new) result }
 {
     let last = ask_elements(link, run)?;
@@ -180,6 +183,8 @@ fn run_at<D: Dmi>(
     requires ends { address + (done + 1 + run.more) * count_of size < 2 ^ 64 }
     ensures ran { IfOk result (λ found. AskedBy size address done run.more found (told (D.seen link.old)) (told (D.seen link.new))) }
     ensures fell { IfErr result (Fails (RunFell size address done run.more) (D.seen link.old) (D.seen link.new)) }
+    ensures whole { IfOk result (λ found. found ≡ None → Within (run.more * (run.looks + 1) + 8) (D.seen link.old) (D.seen link.new)) }
+    ensures rises { Within (run.more * (run.looks + 1) + 24) (D.seen link.old) (D.seen link.new) }
     ensures keeps { Keeps access_why (D.seen link.old) (D.seen link.new) result }
 {
     let last = run_elements(link, run)?;
@@ -199,6 +204,7 @@ pub fn next_run(most: u16, looks: u16, own: u16, trial: bool) -> Run
     requires few { looks ≤ looks_most }
     requires own { (1 ≤ own) × (own ≤ 2) }
     ensures few { result.more * (result.looks + own) ≤ more_most }
+    ensures looks { result.looks ≡ looks }
     ensures within { result.more ≤ most }
 {
     let room = if trial {
@@ -228,6 +234,7 @@ pub fn store_front<D: Dmi>(
     ensures stored { IfOk result (λ done. StoresOn size address value count (told (D.seen link.old)) done (told (D.seen link.new))) }
     ensures most { IfOk result (λ done. done ≤ count) }
     ensures failed { IfErr result (Fails (StoresFailed size address value count) (D.seen link.old) (D.seen link.new)) }
+    ensures rises { Within (57 * count + 256) (D.seen link.old) (D.seen link.new) }
     ensures keeps { Keeps access_why (D.seen link.old) (D.seen link.new) result }
 {
     write_register(link, X9, value)?;

@@ -2,6 +2,7 @@ ghost use Rattle.std.specs.Prelude.{◌≡◌, ◌≤◌, ◌<◌, ◌^◌, IfOk
 ghost use Rattle.probe_access.specs.Cuts.{IfCut, LeftAside, Leaves, MaybePutBack, Unchanged};
 ghost use Rattle.probe_access.specs.Scratches.{PutBackAt, SavedAt, ScratchLeft};
 ghost use Rattle.probe_access.specs.MemoryRuns.{GaveUp, Loses, PutBack, PutBackFailed, SaveFailed, Saved};
+ghost use Rattle.debug_model.specs.Rises.{Within};
 ghost use Rattle.debug_model.specs.Kept.{CanCall, Keeps};
 ghost use Rattle.probe_run.specs.Told.{Fails, OnChip, told};
 ghost use Rattle.probe_access.specs.Faults.{access_why};
@@ -21,10 +22,12 @@ pub struct Scratch {
 }
 
 /// Reads x8 and x9 of the selected hart.
+#[tactic(auto, using(debug_model::proofs::RiseLemmas::within_then, debug_model::proofs::RiseLemmas::within_more))]
 pub(crate) fn save_scratch<D: Dmi>(link: &mut D) -> Result<Scratch, AccessFault>
     requires callable { CanCall (D.seen link.old) }
     ensures saved { IfOk result (λ scratch. Saved scratch.x8 scratch.x9 (told (D.seen link.old)) (told (D.seen link.new))) }
     ensures failed { IfErr result (Fails SaveFailed (D.seen link.old) (D.seen link.new)) }
+    ensures rises { Within 32 (D.seen link.old) (D.seen link.new) }
     ensures keeps { Keeps access_why (D.seen link.old) (D.seen link.new) result }
 {
     let x8 = read_register(link, X8)?;
@@ -34,10 +37,12 @@ pub(crate) fn save_scratch<D: Dmi>(link: &mut D) -> Result<Scratch, AccessFault>
 
 impl Scratch {
     /// Writes x8 and x9 of the selected hart.
+    #[tactic(auto, using(debug_model::proofs::RiseLemmas::within_then, debug_model::proofs::RiseLemmas::within_more))]
     pub(crate) fn put_back<D: Dmi>(self, link: &mut D) -> Result<(), AccessFault>
         requires callable { CanCall (D.seen link.old) }
         ensures put_back { OnOk result (PutBack self.x8 self.x9 (told (D.seen link.old)) (told (D.seen link.new))) }
         ensures failed { IfErr result (Fails (PutBackFailed self.x8 self.x9) (D.seen link.old) (D.seen link.new)) }
+        ensures rises { Within 16 (D.seen link.old) (D.seen link.new) }
         ensures keeps { Keeps access_why (D.seen link.old) (D.seen link.new) result }
     {
         let Scratch { x8, x9 } = self;
@@ -56,6 +61,7 @@ impl Scratch {
         ensures failed { IfErr result (Fails (PutBackFailed self.x8 self.x9) (D.seen link.old) (D.seen link.new)) }
         ensures cut { IfErr result (IfCut (Leaves (LeftAside (MaybePutBack self.x8 self.x9) halted.now.number) (D.seen link.old).far (D.seen link.new).far)) }
         ensures serving { OnOk result (Serving halted.now.number (D.seen link.new).far) }
+        ensures rises { Within 16 (D.seen link.old) (D.seen link.new) }
         ensures keeps { Keeps access_why (D.seen link.old) (D.seen link.new) result }
     {
         let _halted = halted;
@@ -73,11 +79,13 @@ impl Scratch {
     }
 
     /// Hands a fault on, and puts x8 and x9 back first where the hart still serves. A fault of that comes in its place.
+    #[tactic(auto, using(debug_model::proofs::RiseLemmas::within_none))]
     pub(crate) fn give_up<D: Dmi>(self, link: &mut D, fault: AccessFault) -> AccessFault
         requires behind { StandsUnless (D.seen link.old) (access_why fault) }
         ensures gave_up { GaveUp self.x8 self.x9 (D.seen link.old).fault_count (D.seen link.new).fault_count (told (D.seen link.old))
             (told (D.seen link.new)) fault result }
         ensures behind { StandsUnless (D.seen link.new) (access_why result) }
+        ensures rises { Within 16 (D.seen link.old) (D.seen link.new) }
         ensures later { (D.seen link.old).fault_count ≤ (D.seen link.new).fault_count }
         ensures fixed { (D.seen link.new).fixed ≡ (D.seen link.old).fixed }
     {
@@ -105,6 +113,7 @@ pub fn save<D: Dmi>(link: &mut D, halted: &Halted) -> Result<Scratch, AccessFaul
     ensures failed { IfErr result (Fails SaveFailed (D.seen link.old) (D.seen link.new)) }
     ensures cut { IfErr result (IfCut (Leaves (LeftAside Unchanged halted.now.number) (D.seen link.old).far (D.seen link.new).far)) }
     ensures serving { OnOk result (Serving halted.now.number (D.seen link.new).far) }
+    ensures rises { Within 32 (D.seen link.old) (D.seen link.new) }
     ensures keeps { Keeps access_why (D.seen link.old) (D.seen link.new) result }
 {
     let _halted = halted;

@@ -3,6 +3,7 @@ ghost use Rattle.rv_model.specs.Dcsr.{dcsr_of_word};
 ghost use Rattle.probe_access.specs.Cuts.{IfCut, LeftAside, Leaves, Unchanged};
 ghost use Rattle.probe_access.specs.Scratches.{ScratchLeft};
 ghost use Rattle.probe_access.specs.Stops.{StopApart, StopApartFailed, StopAskFailed, StopAsked, StopFailed, StopRead, StoppedAt};
+ghost use Rattle.debug_model.specs.Rises.{Within};
 ghost use Rattle.debug_model.specs.Kept.{CanCall, Keeps};
 ghost use Rattle.probe_run.specs.Told.{Fails, OnChip, told};
 ghost use Rattle.probe_access.specs.Faults.{access_why};
@@ -33,10 +34,12 @@ fn stop_of(pc: u64, word: u64) -> Stop
 /// Asks for `dpc` and then for `dcsr` of the selected hart and reads their words, in one call with one poll for both, where the end shows no error: a word
 /// that is read while a command is under way sets one, and with an error no command starts (RISC-V Debug Specification 1.0, "Abstract Control and Status",
 /// cmderr). An error is cleared. `dcsr` has 32 bits, so of its words the lower one is read alone.
+#[tactic(auto, using(debug_model::proofs::RiseLemmas::within_then, debug_model::proofs::RiseLemmas::within_more))]
 fn stop_at_once<D: Dmi>(link: &mut D) -> Result<Option<Stop>, AccessFault>
     requires callable { CanCall (D.seen link.old) }
     ensures asked { IfOk result (λ answer. StopAsked answer (told (D.seen link.old)) (told (D.seen link.new))) }
     ensures failed { IfErr result (Fails StopAskFailed (D.seen link.old) (D.seen link.new)) }
+    ensures rises { Within 10 (D.seen link.old) (D.seen link.new) }
     ensures keeps { Keeps access_why (D.seen link.old) (D.seen link.new) result }
 {
     let dpc = transfer_of(register_number::DPC, false).word();
@@ -59,10 +62,12 @@ fn stop_at_once<D: Dmi>(link: &mut D) -> Result<Option<Stop>, AccessFault>
 }
 
 /// Reads both by calls of their own.
+#[tactic(auto, using(debug_model::proofs::RiseLemmas::within_then, debug_model::proofs::RiseLemmas::within_more))]
 fn stop_apart<D: Dmi>(link: &mut D) -> Result<Stop, AccessFault>
     requires callable { CanCall (D.seen link.old) }
     ensures read { IfOk result (λ stop. StopApart stop.pc stop.cause (told (D.seen link.old)) (told (D.seen link.new))) }
     ensures failed { IfErr result (Fails StopApartFailed (D.seen link.old) (D.seen link.new)) }
+    ensures rises { Within 16 (D.seen link.old) (D.seen link.new) }
     ensures keeps { Keeps access_why (D.seen link.old) (D.seen link.new) result }
 {
     let pc = read_apart(link, register_number::DPC)?;
@@ -71,6 +76,7 @@ fn stop_apart<D: Dmi>(link: &mut D) -> Result<Stop, AccessFault>
 }
 
 /// Where the halted hart stands, which is selected, and why it halted: its `dpc`, and the cause in its `dcsr`.
+#[tactic(auto, using(debug_model::proofs::RiseLemmas::within_then, debug_model::proofs::RiseLemmas::within_more))]
 pub fn stop<D: Dmi>(link: &mut D, halted: &Halted) -> Result<Stop, AccessFault>
     requires callable { CanCall (D.seen link.old) }
     requires serving { Serving halted.now.number (D.seen link.old).far }
@@ -80,6 +86,7 @@ pub fn stop<D: Dmi>(link: &mut D, halted: &Halted) -> Result<Stop, AccessFault>
     ensures failed { IfErr result (Fails StopFailed (D.seen link.old) (D.seen link.new)) }
     ensures cut { IfErr result (IfCut (Leaves (LeftAside Unchanged halted.now.number) (D.seen link.old).far (D.seen link.new).far)) }
     ensures serving { OnOk result (Serving halted.now.number (D.seen link.new).far) }
+    ensures rises { Within 26 (D.seen link.old) (D.seen link.new) }
     ensures keeps { Keeps access_why (D.seen link.old) (D.seen link.new) result }
 {
     let _halted = halted;

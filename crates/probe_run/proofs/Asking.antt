@@ -17,10 +17,22 @@ pub record Turned (d e : DebugPart) : Type 0 where
   pub resume_request : d.resume_request ≡ false → e.resume_request ≡ false
   pub pending : (d.resume_request ≡ true → d.resume_ack ≡ false) → e.resume_request ≡ true → e.resume_ack ≡ false
   pub frozen : is_some d.halted ≡ true → d.resume_request ≡ false → is_some e.halted ≡ true
+  pub acked : d.resume_request ≡ false → e.resume_ack ≡ d.resume_ack
+  pub goes : is_some d.halted ≡ true → d.resume_request ≡ true → (e.resume_request ≡ false) × (e.resume_ack ≡ true)
+  pub step : e.step ≡ d.step
 
 turned_same : (d e : DebugPart) → e.halt_request ≡ d.halt_request → e.resume_request ≡ d.resume_request → e.resume_ack ≡ d.resume_ack
-    → (is_some d.halted ≡ true → d.resume_request ≡ false → is_some e.halted ≡ true) → Turned d e
-turned_same d e h r a f = record { halt_request = h; resume_request = λ no_one. r ∙ no_one; pending = λ waits is. a ∙ waits (sym r ∙ is); frozen = f }
+    → (is_some d.halted ≡ true → d.resume_request ≡ false → is_some e.halted ≡ true) → (is_some d.halted ≡ true → d.resume_request ≡ true → ⊥)
+    → e.step ≡ d.step → Turned d e
+turned_same d e h r a f none s = record {
+  halt_request = h;
+  resume_request = λ no_one. r ∙ no_one;
+  pending = λ waits is. a ∙ waits (sym r ∙ is);
+  frozen = f;
+  acked = λ _. a;
+  goes = λ halted asked. absurd (none halted asked);
+  step = s;
+}
 
 stepped_turned : (step : Bool) (d e f : DebugPart) → Turned d e → Turned d f → Turned d (if step then e else f)
 stepped_turned true d e f p q = p
@@ -42,14 +54,19 @@ place_turned (Some why) true request fired at_ebreak touch o x at asked = record
   resume_request = λ _. refl;
   pending = λ _ is. absurd (false≢true is);
   frozen = λ _ not_asked. resumes_not x.debug.resume_request _ asked not_asked;
+  acked = λ not_asked. resumes_not x.debug.resume_request _ asked not_asked;
+  goes = λ _ _. (refl, refl);
+  step = refl;
 }
-place_turned (Some why) false request fired at_ebreak touch o x at asked = turned_same x.debug x.debug refl refl refl (λ is _. is)
-place_turned None resume true fired at_ebreak touch o x at asked = turned_same _ _ refl refl refl (λ _ _. refl)
-place_turned None resume false true at_ebreak touch o x at asked = turned_same _ _ refl refl refl (λ _ _. refl)
-place_turned None resume false false true touch o x at asked = turned_same _ _ refl refl refl (λ _ _. refl)
+place_turned (Some why) false request fired at_ebreak touch o x at asked =
+    turned_same x.debug x.debug refl refl refl (λ is _. is) (λ _ is. resumes_not x.debug.resume_request _ is asked) refl
+place_turned None resume true fired at_ebreak touch o x at asked = turned_same _ _ refl refl refl (λ _ _. refl) (λ is _. runs_not x.debug.halted _ at is) refl
+place_turned None resume false true at_ebreak touch o x at asked = turned_same _ _ refl refl refl (λ _ _. refl) (λ is _. runs_not x.debug.halted _ at is) refl
+place_turned None resume false false true touch o x at asked = turned_same _ _ refl refl refl (λ _ _. refl) (λ is _. runs_not x.debug.halted _ at is) refl
 place_turned None resume false false false touch o x at asked =
-    stepped_turned x.debug.step x.debug _ _ (turned_same _ _ refl refl refl (λ is _. runs_not x.debug.halted _ at is))
-    (turned_same _ _ refl refl refl (λ is _. runs_not x.debug.halted _ at is))
+    stepped_turned x.debug.step x.debug _ _
+    (turned_same _ _ refl refl refl (λ is _. runs_not x.debug.halted _ at is) (λ is _. runs_not x.debug.halted _ at is) refl)
+    (turned_same _ _ refl refl refl (λ is _. runs_not x.debug.halted _ at is) (λ is _. runs_not x.debug.halted _ at is) refl)
 
 pub hart_turned : (x : Hart) (m : Memory) → Turned x.debug (place_of x m).hart.debug
 unfolding place_of

@@ -17,12 +17,16 @@ pub mod OpenedReady
 pub mod OpeningFails
 pub mod OpeningLemmas
 pub mod FirstLooks
+pub mod PacedRuns
 pub mod QuietCuts
 pub mod RanLemmas
+pub mod Releases
 pub mod Resuming
 pub mod Runs
 pub mod SessionLemmas
 pub mod SiteLemmas
+pub mod Soon
+pub mod SoonCalls
 pub mod Steps
 pub mod Waiting
 pub mod Wide

@@ -6,7 +6,7 @@ use Rattle.probe_run.specs.Opening.{BusCleared, BusFits, Opened, OpenedChip, Ope
 use Rattle.probe_run.proofs.LoadedCalls.{opens_loaded}
 use Rattle.probe_run.proofs.RanLemmas.{none_ran}
 
-opened_none : (old new : Tells) → old.far ≡ None → Opened old new → new.far ≡ None
+pub opened_none : (old new : Tells) → old.far ≡ None → Opened old new → new.far ≡ None
 opened_none old new is o =
     let t : UpToModule old o.first.first.mid = o.first.first.first in
     let b : Then BusFits BusCleared o.mid new = o.second in

@@ -26,13 +26,13 @@ pub looked_first : (test : Seen → Bool) (first : List Act) (old now : Tells) (
 looked_first test first old now word d = record { vain = []; did = d; none = All-nil (ShowsNot test); count = refl }
 
 -- all of them were in vain
-record Vain (test : Seen → Bool) (first : List Act) (old now : Tells) (looks : ℕ) : Type 0 where
-  vain : List ℕ
-  did : Did old (first ++ map look_act vain) now
-  none : All (ShowsNot test) vain
-  count : length vain ≡ looks
+pub record Vain (test : Seen → Bool) (first : List Act) (old now : Tells) (looks : ℕ) : Type 0 where
+  pub vain : List ℕ
+  pub did : Did old (first ++ map look_act vain) now
+  pub none : All (ShowsNot test) vain
+  pub count : length vain ≡ looks
 
-vain_of : (test : Seen → Bool) (first : List Act) (old now : Tells) (looks word : ℕ) → Looked test first old now looks word → test (seen_in word) ≡ false
+pub vain_of : (test : Seen → Bool) (first : List Act) (old now : Tells) (looks word : ℕ) → Looked test first old now looks word → test (seen_in word) ≡ false
     → Vain test first old now looks
 vain_of test first old now looks word l unseen = record {
   vain = l.vain ++ word ∷ [];

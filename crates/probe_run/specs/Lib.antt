@@ -8,3 +8,4 @@ pub mod Happens
 pub mod Opening
 pub mod Sites
 pub mod SessionLaws
+pub mod Soon

@@ -8,6 +8,7 @@ use Rattle.debug_model.specs.Addresses.{dmcontrol_address, abstractcs_address, a
 use Rattle.debug_model.specs.declared.dmi.DmiFault.{DmiFault}
 use Rattle.debug_model.specs.declared.dmi_op.DmiOp.TheVariants.{Read, Write}
 use Rattle.debug_model.specs.declared.point.Point.TheVariants.{Look}
+use Rattle.debug_model.specs.Chip.{Chip}
 use Rattle.debug_model.specs.Loaded.{AsLoaded}
 use Rattle.debug_model.specs.ModuleWords.{abstractcs_of, dmcontrol_of, dmstatus_of, sbcs_of}
 use Rattle.debug_model.specs.SystemBus.{bus_address_bits}
@@ -219,6 +220,13 @@ Opened = Then UpToBus (Then BusFits BusCleared)
 pub record OpenedAs (version : Version) (old new : Tells) : Type 0 where
   pub opened : Opened old new
   pub release : release_of opened.first.first.second.0 ≡ Some version
+
+-- the release that the debug module of a told chip follows, before and behind
+pub record IsOfRelease (version : Version) (c : Chip) (new : Option Far) : Type 0 where
+  pub far : Far
+  pub is : new ≡ Some far
+  pub was : c.inside.works.site.unit.version ≡ version
+  pub stays : (site_of far).unit.version ≡ version
 
 -- a step failed behind the earlier ones, which were made
 pub record Behind (R : Tells → Tells → Type 0) (F : Tells → Tells → Type 0) (old new : Tells) : Type 0 where

@@ -3,10 +3,11 @@
 ghost use Rattle.std.specs.Prelude.{◌≡◌, ◌≤◌, ◌∷◌, [], true, false, IfErr, IfOk, OnOk};
 ghost use Rattle.debug_model.specs.Told.{IsAsLoaded, IsReady, Selects};
 ghost use Rattle.probe_run.specs.Opening.{Activated, ActivationFails, BusCleared, BusFails, BusFits, CommandsFail, CommandsFit};
-ghost use Rattle.probe_run.specs.Opening.{ConnectFails, LosesLoaded, ModuleFails, ModuleShows, Opened, OpenedAs, OpensLoaded, Then, TransportFails, TransportFits};
-ghost use Rattle.probe_run.specs.Opening.{bus_fits, clears_cmderr, clears_sberror, commands_fit, is_active, release_of, starts_none, transport_fits};
+ghost use Rattle.probe_run.specs.Opening.{ConnectFails, IsOfRelease, LosesLoaded, ModuleFails, ModuleShows, Opened, OpenedAs, OpensLoaded, Then};
+ghost use Rattle.probe_run.specs.Opening.{TransportFails, TransportFits, bus_fits, clears_cmderr, clears_sberror, commands_fit, is_active, release_of, starts_none, transport_fits};
 ghost use Rattle.debug_model.specs.Kept.{CanCall, Keeps};
 ghost use Rattle.debug_model.specs.Rises.{Within};
+ghost use Rattle.debug_model.specs.Scan.{WhereTold};
 ghost use Rattle.probe_run.specs.Told.{Fails, told};
 ghost use Rattle.probe_run.specs.Opening.{opening_why};
 
@@ -215,6 +216,7 @@ pub fn connect<D: Dmi>(link: &mut D) -> Result<Target, ConnectFault>
     requires callable { CanCall (D.seen link.old) }
     ensures did { OnOk result (Opened (told (D.seen link.old)) (told (D.seen link.new))) }
     ensures release { IfOk result (λ target. OpenedAs target.version (told (D.seen link.old)) (told (D.seen link.new))) }
+    ensures chip_release { IfOk result (λ target. WhereTold (IsOfRelease target.version) (D.seen link.old).far (D.seen link.new).far) }
     ensures fails { IfErr result (Fails ConnectFails (D.seen link.old) (D.seen link.new)) }
     ensures loaded { OnOk result (OpensLoaded (D.seen link.old).far (D.seen link.new).far) }
     ensures ready { OnOk result (IsAsLoaded (D.seen link.old).far → IsReady (D.seen link.new).far) }

@@ -7,6 +7,7 @@ ghost use Rattle.probe_run.specs.Looks.{test_of};
 ghost use Rattle.probe_run.specs.Outcomes.{AskedAs, HaltFails, HaltedBy, ResumeFails, ResumedBy, RunBroke, StepFails, SteppedBy};
 ghost use Rattle.debug_model.specs.Kept.{CanCall, Keeps};
 ghost use Rattle.debug_model.specs.Rises.{Within};
+ghost use Rattle.probe_run.specs.Soon.{NeverInVain, StepSet, WaitedInVain, WithinLooks};
 ghost use Rattle.probe_run.specs.Told.{Breaks, Fails, OnChip, told};
 ghost use Rattle.probe_run.specs.Outcomes.{run_why};
 
@@ -27,6 +28,8 @@ fn ask<D: Dmi>(
     ensures asked { IfOk result (AskedAs request hart wanted (told (D.seen link.old)) (told (D.seen link.new))) }
     ensures broke { IfErr result (Breaks (RunBroke request (test_of wanted) hart) (D.seen link.old) (D.seen link.new)) }
     ensures rises { Within 65 (D.seen link.old) (D.seen link.new) }
+    ensures soon { WithinLooks request (test_of wanted) hart (D.seen link.old) (D.seen link.new) }
+    ensures vain { IfOk result (WaitedInVain request (test_of wanted) hart (D.seen link.old)) }
     ensures keeps { Keeps Some (D.seen link.old) (D.seen link.new) result }
 {
     let mut word = control_and_look(link, hart, request)?;
@@ -62,7 +65,8 @@ impl Running {
         ensures ready { OnOk result (IsReady (D.seen link.new).far) }
         ensures selects { OnOk result (Selects self.number (D.seen link.new).far) }
         ensures halted { OnOk result (IsHalted self.number (D.seen link.new).far) }
-        ensures rises { Within 66 (D.seen link.old) (D.seen link.new) }
+        ensures rises { Within 3 (D.seen link.old) (D.seen link.new) }
+        ensures never { IfErr result (NeverInVain (D.seen link.old)) }
         ensures keeps { Keeps run_why (D.seen link.old) (D.seen link.new) result }
     {
         match ask(link, self.number, Request::Halt, Wanted::Halted)? {
@@ -94,7 +98,8 @@ impl Halted {
         ensures ready { OnOk result (IsReady (D.seen link.new).far) }
         ensures selects { OnOk result (Selects self.number (D.seen link.new).far) }
         ensures exists { OnOk result (Exists self.number (D.seen link.new).far) }
-        ensures rises { Within 65 (D.seen link.old) (D.seen link.new) }
+        ensures rises { Within 2 (D.seen link.old) (D.seen link.new) }
+        ensures never { IfErr result (NeverInVain (D.seen link.old)) }
         ensures keeps { Keeps run_why (D.seen link.old) (D.seen link.new) result }
     {
         match ask(link, self.number, Request::Resume, Wanted::Acknowledged)? {
@@ -122,6 +127,8 @@ impl Halted {
         ensures selects { OnOk result (Selects self.number (D.seen link.new).far) }
         ensures halted { OnOk result (IsHalted self.number (D.seen link.new).far) }
         ensures rises { Within 65 (D.seen link.old) (D.seen link.new) }
+        ensures soon { StepSet self.number (D.seen link.old).far → Within 3 (D.seen link.old) (D.seen link.new) }
+        ensures never { StepSet self.number (D.seen link.old).far → IfErr result (NeverInVain (D.seen link.old)) }
         ensures keeps { Keeps run_why (D.seen link.old) (D.seen link.new) result }
     {
         match ask(link, self.number, Request::Resume, Wanted::Both)? {

@@ -114,7 +114,7 @@ load_once path size address value m h way o faulted read lines s t one d =
     load_deals m h way size address value o faulted read lines one.before one.behind s t one.value_is one.access
     (deals_unpathed m h way o path _ lines (target_of s) d)
 
-store_once : (path : Path) (size : Size) (address value : ℕ) (m : Machine) (h : ℕ) (way : Way) (o : Origin) (faulted next : Plan) (lines : List Line)
+pub store_once : (path : Path) (size : Size) (address value : ℕ) (m : Machine) (h : ℕ) (way : Way) (o : Origin) (faulted next : Plan) (lines : List Line)
     (s t : Site) → StoredOnce size address value s t
     → Deals m h way o (storing path size address value faulted next) lines (target_of s) → Deals m h way o next lines (target_of t)
 store_once path size address value m h way o faulted next lines s t one d =

@@ -102,7 +102,7 @@ bus_block_stored_none size address value count at old new e is left refused =
 
 -- ---- those that broke off
 
-leaves_as : (R S : Site → Site → Type 0) (old new : Option Far) → ((s t : Site) → R s t → S s t) → Leaves R old new → Leaves S old new
+pub leaves_as : (R S : Site → Site → Type 0) (old new : Option Far) → ((s t : Site) → R s t → S s t) → Leaves R old new → Leaves S old new
 leaves_as R S None new step l = tt
 leaves_as R S (Some f) new step l = record { far = l.far; is = l.is; left = step _ _ l.left }
 

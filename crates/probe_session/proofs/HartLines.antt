@@ -1,6 +1,6 @@
 -- What a halted hart's lines come from.
 use Rattle.std.proofs.Common.{◌≡◌, ◌≢◌, ◌≤◌, ℕ, Bool, true, false, List, [], subst, sym, ap, refl, cond, if◌then◌else◌}
-use Rattle.std.proofs.lemmas.Bool.{ne_eqb}
+use Rattle.std.proofs.lemmas.Bool.{eq-eqb, ne_eqb}
 use Rattle.rv_model.specs.DebugRegisters.{dcsr_number}
 use Rattle.rv_model.specs.Registers.{mip_number, pc_number}
 use Rattle.abstract_debugger.specs.Debugger.{register_line, showing_mip}
@@ -27,8 +27,8 @@ use Rattle.probe_session.specs.Goes.{Fault}
 use Rattle.probe_session.specs.Goes.{Goes}
 use Rattle.probe_session.specs.Goes.Goes.{step}
 use Rattle.probe_session.specs.Goes.Passing.{found}
-use Rattle.probe_session.specs.Places.{Place, is_identity, spot, still}
-use Rattle.abstract_debugger.specs.Ways.Way.{Idle}
+use Rattle.probe_session.specs.Places.{Place, wants_call, spot, still}
+use Rattle.abstract_debugger.specs.Ways.Way.{Idle, Still}
 use Rattle.abstract_debugger.specs.SlotUses.{hits_in, use_named}
 use Rattle.probe_session.specs.Said.{shown_beside}
 use Rattle.probe_session.specs.Slots.{what_of}
@@ -38,11 +38,10 @@ use Rattle.probe_session.specs.Steps.Step.{writes, writes_none, writes_pc}
 use Rattle.probe_session.proofs.WentLemmas.{falls_at, one, went_one, went_then}
 
 -- a step behind which the hart is left to itself
-rested : {h : ℕ} {line : Line} {from : Plan → Place} {t u : Tells} → ((next : Plan) → Step (from next) t [] (still h (say line next)) u)
-    → is_identity line ≡ false → Went from (ends_with line) [] t u
-rested {h} {line} {from} {t} {u} s plain = record {
-  goes = λ next. subst (λ b. Goes (from next) t [] (spot b Idle 0 (say line next)) u) (sym plain)
-      (step (one (s next)) rests);
+rested : {h : ℕ} {line : Line} {heard : Bool} {from : Plan → Place} {t u : Tells}
+    → ((next : Plan) → Step (from next) t [] (spot heard Still h (say line next)) u) → wants_call line ≡ heard → Went from (ends_with line) [] t u
+rested {h} {line} {heard} {from} {t} {u} s same_heard = record {
+  goes = λ next. subst (λ b. Goes (from next) t [] (spot b Idle 0 (say line next)) u) (sym same_heard) (step (one (s next)) rests);
 }
 
 -- ---- the stop line
@@ -112,7 +111,8 @@ register_falls h number fell = falls_at (λ next. Fault.asking fell)
 
 pub write_refused : (h number value : ℕ) {t u : Tells} → IsOfCores number → GaveNone h number value t u
     → Went (at_written_register h number value) (ends_with (Line.RegisterRefused number)) [] t u
-write_refused h number value of at = rested (λ next. writes_none _ _ at of) refl
+write_refused h number value of at =
+    rested (λ next. writes_none (say (Line.RegisterRefused number) next) _ at of) (sym (eq-eqb number number refl))
 
 pub written : (h number value : ℕ) {t u : Tells} → IsOfCores number → number ≢ pc_number → Gave h number value t u
     → Went (at_written_register h number value) (at_register h number) [] t u

@@ -39,7 +39,8 @@ use Rattle.probe_session.specs.Goes.Goes.{start, step}
 use Rattle.probe_session.specs.Led.{DealsAt, GoesLead, Leads, target_at}
 use Rattle.probe_session.specs.Places.{Place, ready}
 use Rattle.probe_session.specs.Steps.{Step, behind_look, behind_step, lines_of_view, trigger_cause, with_ebreakm}
-use Rattle.probe_session.proofs.BlockSteps.{block_loaded_at, block_loaded_none_at, block_stored_at, block_stored_none_at}
+use Rattle.probe_session.proofs.BlockSteps.{element_stored_none_at}
+use Rattle.probe_session.proofs.BlockSteps.{block_loaded_at, block_loaded_none_at, block_stored_at, block_stored_none_at, element_stored_at}
 use Rattle.probe_session.proofs.Tolds.{at_far, halt_deals, look_deals, other_found_deals, over_deals, resume_deals, step_found_deals}
 use Rattle.probe_session.proofs.Tolds.{stop_deals, stop_trigger_deals, told_case, went_by}
 use Rattle.probe_session.proofs.ToldWrites.{armed_deals, ebreak_deals, freed_deals, full_deals, hits_deals}
@@ -122,7 +123,7 @@ ebreak_given h word on next m o lines c f new x here is passed g d =
 step_leads : (from to : Place) (old new : Tells) (said : List Line) → Step from old said to new → Leads from old said to new
 step_leads from to old new said (Step.same {way} {h} {p} {q} {t} is) m o lines a =
     none_said m o to lines new.far (kept m m way way h h o p q lines lines (target_at t.far) (λ x d. deals_at_plan m h way o p q lines x is d) a)
-step_leads from to old new said (Step.rests {h} {p} {t}) m o lines a =
+step_leads from to old new said (Step.rests {heard} {h} {p} {t}) m o lines a =
     none_said m o to lines new.far (kept m m Still Idle h 0 o p p lines lines (target_at t.far)
     (λ x d. deals_selects m h 0 o p lines x (deals_rests m h o p lines x d)) a)
 step_leads from to old new said (Step.unspent {h} {p} {t}) m o lines a =
@@ -265,6 +266,10 @@ step_leads from to old new said (Step.stores_block {way = way} {h} {address} {va
     none_said m o to lines new.far (block_stored_at m h way size address value count o p q lines old new stores l a)
 step_leads from to old new said (Step.stores_block_none {way = way} {h} {address} {value} {done} {size} {from = p} {faulted} stored stores l) m o lines a =
     none_said m o to lines new.far (block_stored_none_at m h way size address value done o p faulted stored lines old new stores l a)
+step_leads from to old new said (Step.stores_element {way} {h} {address} {value} {size} faulted stored e) m o lines a =
+    none_said m o to lines new.far (element_stored_at m h way size address value o faulted stored lines old new e a)
+step_leads from to old new said (Step.stores_element_none {way} {h} {address} {value} {size} faulted stored e) m o lines a =
+    none_said m o to lines new.far (element_stored_none_at m h way size address value o faulted stored lines old new e a)
 
 walked : (from : Place) (old : Tells) (said : List Line) (to : Place) (new : Tells) → Goes from old said to new → Leads from old said to new
 walked from old said to new start m o lines a = none_said m o from lines old.far a

@@ -42,5 +42,10 @@ pub mod Faults
 pub mod Endings
 pub mod RunCauses
 pub mod AccessCauses
-pub mod WireCauses
+pub mod EndCauses
 pub mod SinkCauses
+pub mod Budgets
+pub mod CommonFronts
+pub mod OpenPlans
+pub mod UpTo
+pub mod UpToTold

@@ -6,6 +6,7 @@ use Rattle.debug_model.specs.declared.command.Command.{Command}
 use Rattle.debug_model.specs.declared.command.Command.TheVariants as command
 use Rattle.debug_model.specs.Command.{IsWithinRanges}
 use Rattle.abstract_debugger.specs.Debugger.{State, commands, first_state}
+use Rattle.abstract_debugger.specs.Plan.{Plan}
 use Rattle.debug_model.specs.declared.dmi.DmiFault.TheVariants as dmi_fault
 use Rattle.probe_run.specs.declared.fault.ConnectFault.{ConnectFault}
 use Rattle.probe_run.specs.declared.fault.ConnectFault.TheVariants as connect
@@ -19,7 +20,7 @@ use Rattle.probe_session.specs.Acts.{Untouched}
 use Rattle.probe_session.specs.Commands.{before, behind}
 use Rattle.abstract_debugger.proofs.QuietLemmas.{commands_are_quiet}
 use Rattle.probe_session.specs.Goes.{Anyhow, CalmNext, Fell, Spoke}
-use Rattle.probe_session.specs.Scripts.{BrokeOff, EndedAs, FollowedAs, RanInto, at_commands, at_stop, ended_unopened, graded}
+use Rattle.probe_session.specs.Scripts.{BrokeOff, EndedAs, EndedBy, FollowedAs, FollowedBy, RanInto, at_commands, at_plan, at_stop, ended_unopened, graded}
 use Rattle.probe_session.proofs.SeveralLines.{spoke_fell}
 use Rattle.probe_session.proofs.Spoken.{fell_within, spoke_then, spoke_within}
 
@@ -104,14 +105,14 @@ within_after rest c after is all = All-tail IsWithinRanges c after (subst (All I
 
 -- ---- a chip that was not opened
 
-pub not_opened : (script : List Command) (fault : ConnectFault) (e : Ended) (old_count new_count : ℕ) (old new : Tells) (sink_old sink_new : ℕ)
+pub not_opened : (p : Plan) (fault : ConnectFault) (e : Ended) (old_count new_count : ℕ) (old new : Tells) (sink_old sink_new : ℕ)
     (was : Option (List ℕ)) → e ≡ ended_unopened fault → ConnectFails old_count new_count old new fault
-    → LosesLoaded old.far new.far fault → EndedAs script old_count new_count old new sink_old sink_new was was e
-not_opened script fault e old_count new_count old new sink_old sink_new was e_is fails told =
-    subst (EndedAs script old_count new_count old new sink_old sink_new was was) (sym e_is) (by_fault fault fails told)
+    → LosesLoaded old.far new.far fault → EndedBy p old_count new_count old new sink_old sink_new was was e
+not_opened p fault e old_count new_count old new sink_old sink_new was e_is fails told =
+    subst (EndedBy p old_count new_count old new sink_old sink_new was was) (sym e_is) (by_fault fault fails told)
   where
     by_fault : (x : ConnectFault) → ConnectFails old_count new_count old new x → LosesLoaded old.far new.far x
-        → EndedAs script old_count new_count old new sink_old sink_new was was (ended_unopened x)
+        → EndedBy p old_count new_count old new sink_old sink_new was was (ended_unopened x)
     by_fault (connect.Dtm word) f l = record { unopened = record { fails = f; told = l; written = refl }; register = refl }
     by_fault (connect.Module word control) f l = record { unopened = record { fails = f; told = l; written = refl }; register = refl }
     by_fault (connect.Abstract word) f l = record { unopened = record { fails = f; told = l; written = refl }; register = refl }
@@ -122,21 +123,26 @@ not_opened script fault e old_count new_count old new sink_old sink_new was e_is
 
 -- ---- behind the opening
 
+pub opened_plan_ended : (p : Plan) (e : Ended) (old_count count new_count : ℕ) (old mid new : Tells) (sink_old sink_new : ℕ) (was is : Option (List ℕ))
+    → Opened old mid → OpensLoaded old.far mid.far → old_count ≤ count → FollowedBy p count new_count mid new sink_old sink_new was is e
+    → EndedBy p old_count new_count old new sink_old sink_new was is e
+opened_plan_ended p e old_count count new_count old mid new sink_old sink_new was is opened told le followed = by_end e followed
+  where
+    into : (f : Failure) → Fell Anyhow (at_plan p) count new_count mid new sink_old sink_new was is f
+        → RanInto p old_count new_count old new sink_old sink_new was is f
+    into f fell = record { mid = mid; count = count; opened = opened; told = told; later = le; fell = fell }
+
+    by_end : (x : Ended) → FollowedBy p count new_count mid new sink_old sink_new was is x → EndedBy p old_count new_count old new sink_old sink_new was is x
+    by_end ended.Clean f = record { mid = mid; opened = opened; told = told; spoke = f }
+    by_end ended.WithErrors f = record { mid = mid; opened = opened; told = told; spoke = f }
+    by_end (ended.Target fault) f = absurd f
+    by_end (ended.Wire why) f = BrokeOff.in_plan (into (failure.Wire why) f)
+    by_end (ended.Lost why) f = BrokeOff.in_plan (into (failure.Lost why) f)
+    by_end ended.Sink f = into failure.Sink f
+
 pub opened_ended : (script : List Command) (s : State) (e : Ended) (old_count count new_count : ℕ) (old mid new : Tells) (sink_old sink_new : ℕ)
     (was is : Option (List ℕ)) → s ≡ first_state → Opened old mid → OpensLoaded old.far mid.far → old_count ≤ count
     → FollowedAs script s count new_count mid new sink_old sink_new was is e → EndedAs script old_count new_count old new sink_old sink_new was is e
 opened_ended script s e old_count count new_count old mid new sink_old sink_new was is first opened told le followed =
-    by_end e (subst (λ x. FollowedAs script x count new_count mid new sink_old sink_new was is e) first followed)
-  where
-    into : (f : Failure) → Fell Anyhow (at_commands script first_state) count new_count mid new sink_old sink_new was is f
-        → RanInto script old_count new_count old new sink_old sink_new was is f
-    into f fell = record { mid = mid; count = count; opened = opened; told = told; later = le; fell = fell }
-
-    by_end : (x : Ended) → FollowedAs script first_state count new_count mid new sink_old sink_new was is x
-        → EndedAs script old_count new_count old new sink_old sink_new was is x
-    by_end ended.Clean f = record { mid = mid; opened = opened; told = told; spoke = f }
-    by_end ended.WithErrors f = record { mid = mid; opened = opened; told = told; spoke = f }
-    by_end (ended.Target fault) f = absurd f
-    by_end (ended.Wire why) f = BrokeOff.in_script (into (failure.Wire why) f)
-    by_end (ended.Lost why) f = BrokeOff.in_script (into (failure.Lost why) f)
-    by_end ended.Sink f = into failure.Sink f
+    opened_plan_ended (commands script first_state) e old_count count new_count old mid new sink_old sink_new was is opened told le
+    (subst (λ x. FollowedAs script x count new_count mid new sink_old sink_new was is e) first followed)

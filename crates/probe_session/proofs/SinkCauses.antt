@@ -1,11 +1,10 @@
 -- A session ends by its sink only where the sink failed: no call of the layers below makes that failure.
 use Rattle.std.proofs.Common.{◌≡◌, ℕ, List, Option, refl, sym, subst}
 use Rattle.jt_base.specs.Faults.{Rises}
-use Rattle.debug_model.specs.declared.command.Command.{Command}
 use Rattle.debug_model.specs.declared.command.Path.{Path}
 use Rattle.debug_model.specs.declared.dmi.DmiFault.{DmiFault}
 use Rattle.debug_model.specs.declared.dmi.DmiFault.TheVariants as dmi_fault
-use Rattle.abstract_debugger.specs.Debugger.{first_state}
+use Rattle.abstract_debugger.specs.Plan.{Plan}
 use Rattle.abstract_debugger.specs.Lines.{Line}
 use Rattle.probe_access.specs.declared.fault.AccessFault.{AccessFault}
 use Rattle.probe_access.specs.declared.fault.AccessFault.TheVariants as fault
@@ -22,9 +21,9 @@ use Rattle.probe_session.specs.Causes.{SinkCaused}
 use Rattle.probe_session.specs.Failures.{Became, failure_of_dmi, failure_of_run}
 use Rattle.probe_session.specs.Goes.{Anyhow, Falls, Fault, Fell}
 use Rattle.probe_session.specs.Places.{Place}
-use Rattle.probe_session.specs.Scripts.{EndedAs, at_commands}
+use Rattle.probe_session.specs.Scripts.{EndedBy, at_plan}
 
-abbrev IsNotSink : Failure → Type 0
+abbrev pub IsNotSink : Failure → Type 0
 IsNotSink (failure.Wire why) = Unit {0}
 IsNotSink (failure.Lost why) = Unit {0}
 IsNotSink failure.Sink = ⊥
@@ -44,10 +43,10 @@ by_run (run_fault.Dmi why) = by_dmi why
 by_run (run_fault.NoHalt looks) = tt
 by_run (run_fault.NoAck looks) = tt
 
-of_run : (why : RunFault) (f : Failure) → f ≡ failure_of_run why → IsNotSink f
+pub of_run : (why : RunFault) (f : Failure) → f ≡ failure_of_run why → IsNotSink f
 of_run why f is = subst IsNotSink (sym is) (by_run why)
 
-of_access : (why : AccessFault) (f : Failure) → Became why f → IsNotSink f
+pub of_access : (why : AccessFault) (f : Failure) → Became why f → IsNotSink f
 of_access (fault.Dmi why) f is = of_dmi why f is
 of_access (fault.Memory address) f is = absurd is
 of_access (fault.Register number) f is = subst IsNotSink (sym is) tt
@@ -57,17 +56,17 @@ of_access (fault.Odd shown) f is = subst IsNotSink (sym is) tt
 
 -- ---- a call that failed
 
-of_load : {path : Path} (size : Size) (address count old_count new_count : ℕ) (old new : Tells) (f : Failure)
+pub of_load : {path : Path} (size : Size) (address count old_count new_count : ℕ) (old new : Tells) (f : Failure)
     → BlockLoadFell path size address count old_count new_count old new f → IsNotSink f
 of_load size address count old_count new_count old new f (BlockLoadFell.by_hart h why held at later heard causes told cut is) = of_access why f is
 of_load size address count old_count new_count old new f (BlockLoadFell.by_bus why held at later causes told cut is) = of_access why f is
 
-of_store : {path : Path} (size : Size) (address value count old_count new_count : ℕ) (old new : Tells) (f : Failure)
+pub of_store : {path : Path} (size : Size) (address value count old_count new_count : ℕ) (old new : Tells) (f : Failure)
     → BlockStoreFell path size address value count old_count new_count old new f → IsNotSink f
 of_store size address value count old_count new_count old new f (BlockStoreFell.by_hart h why at later heard causes told cut is) = of_access why f is
 of_store size address value count old_count new_count old new f (BlockStoreFell.by_bus why at later causes told cut is) = of_access why f is
 
-of_fault : (p : Place) (old_count new_count : ℕ) (old new : Tells) (f : Failure) → Fault p old_count new_count old new f → IsNotSink f
+pub of_fault : (p : Place) (old_count new_count : ℕ) (old new : Tells) (f : Failure) → Fault p old_count new_count old new f → IsNotSink f
 of_fault p old_count new_count old new f (Fault.idcode r) = of_dmi r.why f r.is
 of_fault p old_count new_count old new f (Fault.looking next r) = of_run r.why f r.is
 of_fault p old_count new_count old new f (Fault.halt next r) = of_run r.why f r.is
@@ -108,12 +107,12 @@ fell_sink f e before old_count new_count old new sink_old sink_new was is (Fell.
 fell_sink f e before old_count new_count old new sink_old sink_new was is (Fell.at_line said line heard way h next may quiet went front rises) = rises
 fell_sink f e before old_count new_count old new sink_old sink_new was is (Fell.among_lines said ahead way h next quiet went front rises) = rises
 
-pub sink_caused : (e : Ended) (script : List Command) (old_count new_count : ℕ) (old new : Tells) (sink_old sink_new : ℕ) (was is : Option (List ℕ))
-    → EndedAs script old_count new_count old new sink_old sink_new was is e → SinkCaused sink_old sink_new e
-sink_caused ended.Clean script old_count new_count old new sink_old sink_new was is r = tt
-sink_caused ended.WithErrors script old_count new_count old new sink_old sink_new was is r = tt
-sink_caused (ended.Target fault) script old_count new_count old new sink_old sink_new was is r = tt
-sink_caused (ended.Wire why) script old_count new_count old new sink_old sink_new was is r = tt
-sink_caused (ended.Lost why) script old_count new_count old new sink_old sink_new was is r = tt
-sink_caused ended.Sink script old_count new_count old new sink_old sink_new was is r =
-    fell_sink failure.Sink refl (at_commands script first_state) r.count new_count r.mid new sink_old sink_new was is r.fell
+pub sink_caused : (e : Ended) (p : Plan) (old_count new_count : ℕ) (old new : Tells) (sink_old sink_new : ℕ) (was is : Option (List ℕ))
+    → EndedBy p old_count new_count old new sink_old sink_new was is e → SinkCaused sink_old sink_new e
+sink_caused ended.Clean p old_count new_count old new sink_old sink_new was is r = tt
+sink_caused ended.WithErrors p old_count new_count old new sink_old sink_new was is r = tt
+sink_caused (ended.Target fault) p old_count new_count old new sink_old sink_new was is r = tt
+sink_caused (ended.Wire why) p old_count new_count old new sink_old sink_new was is r = tt
+sink_caused (ended.Lost why) p old_count new_count old new sink_old sink_new was is r = tt
+sink_caused ended.Sink p old_count new_count old new sink_old sink_new was is r =
+    fell_sink failure.Sink refl (at_plan p) r.count new_count r.mid new sink_old sink_new was is r.fell

@@ -18,7 +18,7 @@ use Rattle.probe_session.specs.declared.fault.Failure.TheVariants as failure
 use Rattle.abstract_debugger.specs.Laws.{Quiet}
 use Rattle.probe_session.specs.Goes.{Falls, Fell, Spoke, Went}
 use Rattle.probe_session.specs.Goes.Fell.{among_lines, at_line, in_call}
-use Rattle.probe_session.specs.Places.{Place, at_say, idle, is_identity, may_say, place, spot}
+use Rattle.probe_session.specs.Places.{Place, at_say, idle, wants_call, may_say, place, spot}
 use Rattle.probe_session.specs.Said.{said_by}
 use Rattle.probe_session.specs.Steps.Step.{says}
 use Rattle.probe_session.proofs.WentLemmas.{falls_then, falls_within, went_none, went_one, went_then, within}
@@ -101,13 +101,13 @@ says_at heard way h line p {t} {c} {d} may put = record {
 }
 
 -- a line that wants no call
-pub says_line : {K : Type 0} (way : Way) (h : ℕ) (line : Line) (p : K → Plan) {t : Tells} {c d : Option (List ℕ)} → is_identity line ≡ false
+pub says_line : {K : Type 0} (way : Way) (h : ℕ) (line : Line) (p : K → Plan) {t : Tells} {c d : Option (List ℕ)} → wants_call line ≡ false
     → d ≡ grown (text_of line) c
     → Spoke (λ k. place way h (say line (p k))) (λ k. place way h (p k)) (is_error line) t t c d
 says_line way h line p plain put = says_at false way h line p (ap not plain) put
 
 pub spoke_says : {K : Type 0} {a : K → Place} (way : Way) (h : ℕ) (line : Line) (p : K → Plan) {wrong : Bool} {t u : Tells} {c d e : Option (List ℕ)}
-    → is_identity line ≡ false → Spoke a (λ k. place way h (say line (p k))) wrong t u c d
+    → wants_call line ≡ false → Spoke a (λ k. place way h (say line (p k))) wrong t u c d
     → e ≡ grown (text_of line) d → Spoke a (λ k. place way h (p k)) (wrong || is_error line) t u c e
 spoke_says way h line p plain s put = spoke_then s (says_line way h line p plain put)
 
@@ -116,13 +116,13 @@ said_where : (b : Bool) → (b || not b) ≡ true
 said_where true = refl
 said_where false = refl
 
-pub may_at_say : (line : Line) → may_say (is_identity line) line ≡ true
-may_at_say line = said_where (is_identity line)
+pub may_at_say : (line : Line) → may_say (wants_call line) line ≡ true
+may_at_say line = said_where (wants_call line)
 
 spoke_at : {K : Type 0} {a : K → Place} (line : Line) (p : K → Plan) {wrong : Bool} {t u : Tells} {c d e : Option (List ℕ)}
     → Spoke a (λ k. at_say line (p k)) wrong t u c d → e ≡ grown (text_of line) d
     → Spoke a (λ k. idle (p k)) (wrong || is_error line) t u c e
-spoke_at line p s put = spoke_then s (says_at (is_identity line) Idle 0 line p (may_at_say line) put)
+spoke_at line p s put = spoke_then s (says_at (wants_call line) Idle 0 line p (may_at_say line) put)
 
 pub spoke_within : {K L : Type 0} {a b : L → Place} {wrong : Bool} {t u : Tells} {c d : Option (List ℕ)} (f : K → L) → Spoke a b wrong t u c d
     → Spoke (λ k. a (f k)) (λ k. b (f k)) wrong t u c d
@@ -153,7 +153,7 @@ fell_where {K} {T} {a} heard way h line p may quiet old_count new_count {t} {u} 
     subst (λ (x : Failure). Fell T a old_count new_count t u sink_old sink_new c e x) (sym is)
     (at_line s.said line heard way h p may quiet s.went (front_at line (grown (text_of_all s.said) c) d e s.put front) rises)
 
-pub fell_line : {K : Type 0} {T : K → Type 0} {a : K → Place} (way : Way) (h : ℕ) (line : Line) (p : K → Plan) (plain : is_identity line ≡ false)
+pub fell_line : {K : Type 0} {T : K → Type 0} {a : K → Place} (way : Way) (h : ℕ) (line : Line) (p : K → Plan) (plain : wants_call line ≡ false)
     (quiet : (k : K) → T k → Quiet (p k)) {wrong : Bool} (old_count new_count : ℕ) {t u : Tells} {sink_old sink_new : ℕ} {c d e : Option (List ℕ)}
     {f : Failure} → f ≡ failure.Sink
     → Spoke a (λ k. place way h (say line (p k))) wrong t u c d → GrewByPrefix (text_of line) d e → Rises sink_old sink_new
@@ -166,7 +166,7 @@ pub fell_said : {K : Type 0} {T : K → Type 0} {a : K → Place} (line : Line) 
     (old_count new_count : ℕ) {t u : Tells} {sink_old sink_new : ℕ} {c d e : Option (List ℕ)} {f : Failure} → f ≡ failure.Sink
     → Spoke a (λ k. at_say line (p k)) wrong t u c d → GrewByPrefix (text_of line) d e → Rises sink_old sink_new
     → Fell T a old_count new_count t u sink_old sink_new c e f
-fell_said line p quiet old_count new_count is s front rises = fell_where (is_identity line) Idle 0 line p (may_at_say line) quiet old_count
+fell_said line p quiet old_count new_count is s front rises = fell_where (wants_call line) Idle 0 line p (may_at_say line) quiet old_count
     new_count is s front rises
 
 pub fell_within : {K L : Type 0} {T : K → Type 0} {U : L → Type 0} {a : L → Place} {old_count new_count : ℕ} {t u : Tells} {sink_old sink_new : ℕ}
@@ -201,6 +201,7 @@ same_error (printed.Row a bytes) = refl
 same_error (printed.Via path) = refl
 same_error (printed.Ebreak on) = refl
 same_error (printed.Slot n used hit) = refl
+same_error (printed.Loaded n) = refl
 same_error (printed.SoftSet a) = refl
 same_error (printed.SoftClear a) = refl
 same_error (printed.NoHart h) = refl

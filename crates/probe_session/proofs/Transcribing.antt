@@ -4,15 +4,15 @@ use Rattle.std.proofs.Common.{if◌then◌else◌}
 use Rattle.std.proofs.lemmas.Option.{none-some, same_Some}
 use Rattle.jt_base.specs.Sink.{GrewByPrefix, grown}
 use Rattle.rv_model.specs.Board.{Board, Hart, Machine, machine_of}
-use Rattle.debug_model.specs.declared.command.Command.{Command}
 use Rattle.debug_model.specs.declared.point.Point.{Point}
 use Rattle.debug_model.specs.Chip.{Live}
 use Rattle.debug_model.specs.Loaded.{AsLoaded}
 use Rattle.debug_model.specs.Told.{Far, site_of}
-use Rattle.abstract_debugger.specs.Debugger.{Seen, commands, first_state, seen_at, session}
+use Rattle.abstract_debugger.specs.Debugger.{Seen, seen_at}
 use Rattle.abstract_debugger.specs.Known.{IsFresh, IsFreshPart}
 use Rattle.abstract_debugger.specs.Laws.{IsFront}
 use Rattle.abstract_debugger.specs.Lines.{Line, any_error, text_of, text_of_all}
+use Rattle.abstract_debugger.specs.Plan.{Plan}
 use Rattle.abstract_debugger.specs.Plan.Plan.{stop}
 use Rattle.abstract_debugger.specs.Plan.PlanEnd.{Done}
 use Rattle.abstract_debugger.specs.Stands.{Deals, IsTranscribed, Looked, Origin, Target}
@@ -28,7 +28,7 @@ use Rattle.probe_run.proofs.LoadedChip.{ResetAs, each_reset}
 use Rattle.probe_session.specs.Led.{DealsAt, target_at}
 use Rattle.probe_session.specs.Places.{idle}
 use Rattle.probe_session.specs.Scripts.{at_stop}
-use Rattle.probe_session.specs.Transcribed.{IsTranscript, Still, origin_of}
+use Rattle.probe_session.specs.Transcribed.{IsTranscript, Still, behind_opening, origin_of}
 use Rattle.probe_session.proofs.Spoken.{text_of_all-append}
 use Rattle.probe_session.proofs.Tolds.{at_far}
 
@@ -80,24 +80,24 @@ pub loaded_fresh : (l : Live) → AsLoaded l → IsFresh l.chip.inside.works.sit
 loaded_fresh l a j x is =
     reset_fresh j x (each_reset a.version a.harts a.halted a.right.most j x (sym (ap (λ (k : Live). slice_get k.chip.inside.works.site.board.harts j) a.is) ∙ is))
 
-pub begun_deals : (script : List Command) (first : Far) → AsLoaded first.live
-    → Deals (machine_of (site_of first).board) 0 Idle (origin_of script first) (session script) [] (target_of (site_of first))
-begun_deals script first a =
-    subst (λ (j : List Point). Deals (machine_of (site_of first).board) 0 Idle (origin_of script first) (session script) []
+pub begun_deals : (p : Plan) (first : Far) → AsLoaded first.live
+    → Deals (machine_of (site_of first).board) 0 Idle (origin_of p first) (behind_opening p) [] (target_of (site_of first))
+begun_deals p first a =
+    subst (λ (j : List Point). Deals (machine_of (site_of first).board) 0 Idle (origin_of p first) (behind_opening p) []
     (record { board = (site_of first).board; journal = j }))
-    (sym (ap (λ (k : Live). k.chip.inside.works.site.journal) a.is)) (deals_starts 0 (session script) (site_of first).board (loaded_fresh first.live a))
+    (sym (ap (λ (k : Live). k.chip.inside.works.site.journal) a.is)) (deals_starts 0 (behind_opening p) (site_of first).board (loaded_fresh first.live a))
 
-pub opened_deals : (script : List Command) (first : Far) (new : Option Far) → AsLoaded first.live → OpenedChip first new
-    → DealsAt (machine_of (site_of first).board) (origin_of script first) (idle (commands script first_state)) [] new
-opened_deals script first new a opened =
+pub opened_deals : (p : Plan) (first : Far) (new : Option Far) → AsLoaded first.live → OpenedChip first new
+    → DealsAt (machine_of (site_of first).board) (origin_of p first) (idle p) [] new
+opened_deals p first new a opened =
     let m : Machine = machine_of (site_of first).board in
-    let o : Origin = origin_of script first in
+    let o : Origin = origin_of p first in
     let old : Target = target_of (site_of first) in
     let sees : Seen = seen_at 0 (after_turns opened.happened.before old.board) in
     let looks : Looked 0 sees old (target_of (site_of opened.far)) = record { pointed = opened.happened; shows = refl } in
-    at_far m 0 Idle o (commands script first_state) [] opened.far new opened.is
-    (deals_looked m 0 Idle Idle o 0 (λ _. commands script first_state) sees [] old (target_of (site_of opened.far)) (λ w e k. k)
-    (begun_deals script first a) looks)
+    at_far m 0 Idle o p [] opened.far new opened.is
+    (deals_looked m 0 Idle Idle o 0 (λ _. p) sees [] old (target_of (site_of opened.far)) (λ w e k. k)
+    (begun_deals p first a) looks)
 
 -- ---- where a session is at its end
 
@@ -110,14 +110,14 @@ found_far P Q (Some f) t is p step = record { far = f; is = refl; holds = step f
 grades : (wrong : Bool) (said : List Line) → any_error said ≡ wrong → graded Done said ≡ (if wrong then End.WithErrors else End.Clean)
 grades wrong said is = ap (λ (b : Bool). if b then End.WithErrors else End.Clean) is
 
-pub ran_transcribed : (script : List Command) (wrong : Bool) (first : Far) (was is : Option (List ℕ)) (new : Option Far) (said : List Line)
-    → DealsAt (machine_of (site_of first).board) (origin_of script first) (at_stop tt) said new
-    → any_error said ≡ wrong → is ≡ grown (text_of_all said) was → Still (IsTranscript script (if wrong then End.WithErrors else End.Clean) was is first) new
-ran_transcribed script wrong first was is new said d wrong_is put =
-    found_far (λ t. Deals (machine_of (site_of first).board) 0 Idle (origin_of script first) (stop Done) said t)
-    (IsTranscript script (if wrong then End.WithErrors else End.Clean) was is first) new d.target d.is d.holds (λ f e.
-    let t : IsTranscribed (origin_of script first) (graded Done said) said (target_of (site_of f)) =
-    transcribed (origin_of script first) Done said (target_of (site_of f)) e.stands in
+pub ran_transcribed : (p : Plan) (wrong : Bool) (first : Far) (was is : Option (List ℕ)) (new : Option Far) (said : List Line)
+    → DealsAt (machine_of (site_of first).board) (origin_of p first) (at_stop tt) said new
+    → any_error said ≡ wrong → is ≡ grown (text_of_all said) was → Still (IsTranscript p (if wrong then End.WithErrors else End.Clean) was is first) new
+ran_transcribed p wrong first was is new said d wrong_is put =
+    found_far (λ t. Deals (machine_of (site_of first).board) 0 Idle (origin_of p first) (stop Done) said t)
+    (IsTranscript p (if wrong then End.WithErrors else End.Clean) was is first) new d.target d.is d.holds (λ f e.
+    let t : IsTranscribed (origin_of p first) (graded Done said) said (target_of (site_of f)) =
+    transcribed (origin_of p first) Done said (target_of (site_of f)) e.stands in
     record {
       end_is = t.end_is ∙ grades wrong said wrong_is;
       written = put ∙ ap (λ (l : List Line). grown (text_of_all l) was) (sym t.lines_are);

@@ -10,14 +10,14 @@ use Rattle.abstract_debugger.specs.Lines.{Line}
 use Rattle.abstract_debugger.specs.Plan.{Plan}
 use Rattle.abstract_debugger.specs.Plan.Change.{WriteMem}
 use Rattle.abstract_debugger.specs.Plan.Plan.{change, say}
-use Rattle.probe_session.specs.Places.{is_identity}
+use Rattle.probe_session.specs.Places.{wants_call}
 
 -- ---- lines
 
 -- the plan says these lines next, none of which wants a call of its own, and goes on
 pub data Says : Plan → List Line → Plan → Type 0 where
   nothing : {p : Plan} → Says p [] p
-  further : {line : Line} {lines : List Line} {next p : Plan} → is_identity line ≡ false → Says next lines p → Says (say line next) (line ∷ lines) p
+  further : {line : Line} {lines : List Line} {next p : Plan} → wants_call line ≡ false → Says next lines p → Says (say line next) (line ∷ lines) p
 
 -- ---- loads
 

@@ -16,9 +16,12 @@ pub mod Reach
 pub mod Going
 pub mod Showing
 pub mod Shown
+pub mod Budget
+pub mod BudgetExample
 pub mod Known
 pub mod Led
 pub mod Acts
 pub mod Scripts
 pub mod Causes
 pub mod Transcribed
+pub mod UnderWay

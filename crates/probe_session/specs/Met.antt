@@ -1,9 +1,11 @@
 -- What a command's Look of its hart answers: the hart, which is halted, or the line that says why there is none to work on.
 -- It is this project's own.
-use Rattle.std.specs.Prelude.{◌≡◌, ℕ, false, []}
+use Rattle.std.specs.Prelude.{◌≡◌, ℕ, true, false, []}
 use Rattle.debug_model.specs.Kept.{DmiSeen}
 use Rattle.abstract_debugger.specs.Debugger.{at_halted}
+use Rattle.abstract_debugger.specs.Lines.{is_error}
 use Rattle.abstract_debugger.specs.Plan.{Plan}
+use Rattle.printed_lines.specs.Line.{line_of}
 use Rattle.probe_run.specs.Acts.{Tells}
 use Rattle.probe_session.specs.declared.met.Met.{Met}
 use Rattle.probe_session.specs.declared.met.Met.TheVariants as met
@@ -33,3 +35,8 @@ AttachedMet (met.Says line) s = Attached s
 abbrev pub SaysNoStep : Met → Type 0
 SaysNoStep (met.At x) = Unit {0}
 SaysNoStep (met.Says line) = says_step line ≡ false
+
+-- and is that of an error
+abbrev pub SaysError : Met → Type 0
+SaysError (met.At x) = Unit {0}
+SaysError (met.Says line) = is_error (line_of line) ≡ true

@@ -1,6 +1,6 @@
 -- The places of a session: what is left of the abstract debugger's plan, and what is known there of the hart that it deals with.
 -- It is this project's own.
-use Rattle.std.specs.Prelude.{ℕ, Bool, true, false, not, ◌||◌}
+use Rattle.std.specs.Prelude.{ℕ, Bool, true, false, not, ◌||◌, ◌==◌}
 use Rattle.abstract_debugger.specs.Lines.{Line}
 use Rattle.abstract_debugger.specs.Plan.{Plan}
 use Rattle.abstract_debugger.specs.Plan.Plan.{say}
@@ -33,14 +33,21 @@ ready h p = place Ready h p
 
 -- ---- lines
 
--- the IDCODE is the one thing that a plan says of every chip beforehand: so its line wants the call that answered it
-abbrev pub is_identity : Line → Bool
-is_identity (Line.Idcode number) = true
-is_identity _ = false
+-- The IDCODE, and that a register which is never written was refused, are what a plan says of every chip beforehand: so these lines want the call that
+-- answered them.
+abbrev pub wants_call : Line → Bool
+wants_call (Line.Idcode number) = true
+wants_call (Line.RegisterRefused number) = true
+wants_call _ = false
 
 abbrev pub may_say : (heard : Bool) → Line → Bool
-may_say heard line = heard || not (is_identity line)
+may_say heard line = heard || not (wants_call line)
+
+-- does the plan say next that this register was refused?
+abbrev pub says_refused : ℕ → Plan → Bool
+says_refused number (say (Line.RegisterRefused n) next) = n == number
+says_refused number _ = false
 
 -- at a line, with nothing known of any hart
 abbrev pub at_say : Line → Plan → Place
-at_say line next = spot (is_identity line) Idle 0 (say line next)
+at_say line next = spot (wants_call line) Idle 0 (say line next)

@@ -24,6 +24,7 @@ said_by (printed.Row address bytes) = Line.Row address bytes.items
 said_by (printed.Via path) = Line.Via path
 said_by (printed.Ebreak is_on) = Line.Ebreak is_on
 said_by (printed.Slot slot used hit) = line_of (printed.Slot slot used hit)
+said_by (printed.Loaded count) = Line.Loaded count
 said_by (printed.SoftSet address) = Line.SoftSet address
 said_by (printed.SoftClear address) = Line.SoftClear address
 said_by (printed.NoHart hart) = Line.NoHart hart

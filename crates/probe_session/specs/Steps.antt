@@ -8,6 +8,7 @@ use Rattle.rv_model.specs.declared.size.Size.{Size}
 use Rattle.rv_model.specs.Cause.{cause_number}
 use Rattle.rv_model.specs.Registers.{csr_read_only, mip_number, pc_number}
 use Rattle.debug_model.specs.declared.command.Path.{Path}
+use Rattle.debug_model.specs.declared.command.Path.TheVariants.{Bus}
 use Rattle.debug_model.specs.Tap.{idcode}
 use Rattle.abstract_debugger.specs.Debugger.{arming, by_state, freeing, going, halted_of, halting, look, one}
 use Rattle.abstract_debugger.specs.Debugger.{register_line, saying, showing_mip, slots_shown_at, stop_line, value_here}
@@ -24,6 +25,7 @@ use Rattle.rv_model.specs.Dcsr.{dcsr_of_word, dcsr_word}
 use Rattle.rv_model.specs.DebugRegisters.{dcsr_number}
 use Rattle.abstract_debugger.specs.Plan.Plan.{change, say, see}
 use Rattle.abstract_debugger.specs.Ways.{Way}
+use Rattle.abstract_debugger.specs.Ways.Way.{Idle, Still}
 use Rattle.abstract_debugger.specs.SlotUses.{hits_in, use_named}
 use Rattle.probe_run.specs.declared.hart.Seen.{Seen}
 use Rattle.probe_run.specs.declared.hart.Seen.TheVariants as seen
@@ -32,10 +34,10 @@ use Rattle.probe_session.specs.Calls.{FoundStop, Gave, GaveNone, Got, GotNone, G
 use Rattle.probe_session.specs.Calls.{NoneFree, NotUsed, PendingNone, StepMade, StepOverMade, ResumeMade, LookMade, SlotFreed, SlotTaken, Viewed}
 use Rattle.probe_trig.specs.Stepping.{shows_step}
 use Rattle.probe_access.specs.Blocks.{element_at}
-use Rattle.probe_session.specs.BlockCalls.{BlockLoaded, BlockLoadedNone, BlockStored, BlockStoredNone}
+use Rattle.probe_session.specs.BlockCalls.{BlockLoaded, BlockLoadedNone, BlockStored, BlockStoredNone, ElementStored, ElementStoredNone}
 use Rattle.probe_session.specs.Blocks.{Loads, Stores, loading, storing}
 use Rattle.probe_session.specs.Known.{IsWhole}
-use Rattle.probe_session.specs.Places.{Place, at_say, idle, may_say, place, ready, spot, still}
+use Rattle.probe_session.specs.Places.{Place, at_say, idle, may_say, place, ready, says_refused, spot, still}
 
 -- where a command stands behind its Look
 abbrev pub behind_look : Seen → ℕ → (absent running halted : Plan) → Place
@@ -72,7 +74,7 @@ with_ebreakm on word = dcsr_word (record (dcsr_of_word word) { ebreakm = on })
 pub data Step : Place → Tells → List Line → Place → Tells → Type 0 where
   -- without a call
   same : {way : Way} {h : ℕ} {p q : Plan} {t : Tells} → p ≡ q → Step (place way h p) t [] (place way h q) t
-  rests : {h : ℕ} {p : Plan} {t : Tells} → Step (still h p) t [] (idle p) t
+  rests : {heard : Bool} {h : ℕ} {p : Plan} {t : Tells} → Step (spot heard Still h p) t [] (spot heard Idle 0 p) t
   unspent : {h : ℕ} {p : Plan} {t : Tells} → Step (ready h p) t [] (still h p) t
   overlooks : {way : Way} {h : ℕ} {p : Plan} {t : Tells} → Step (place way h (see (λ _. p))) t [] (place way h p) t
   says : {heard : Bool} {way : Way} {h : ℕ} {line : Line} {next : Plan} {t : Tells} → may_say heard line ≡ true
@@ -121,18 +123,18 @@ pub data Step : Place → Tells → List Line → Place → Tells → Type 0 whe
       → Step (still h (see (λ b. saying (map (register_line h b) (number ∷ numbers)) next))) old []
       (still h (say (Line.Register number value) (see (λ b. saying (map (register_line h b) numbers) next)))) new
   reads_none : {h number : ℕ} (next : Plan) {old new : Tells} → GotNone h number old new → IsOfCores number
-      → Step (still h (see (λ b. say (register_line h b number) next))) old [] (still h (say (Line.RegisterRefused number) next)) new
+      → Step (still h (see (λ b. say (register_line h b number) next))) old [] (spot true Still h (say (Line.RegisterRefused number) next)) new
   -- mip, by the access that the plan takes there
   reads_pending : {h value : ℕ} (next : Plan) {old new : Tells} → GotPending h value old new
       → Step (still h (showing_mip h next)) old [] (still h (say (Line.Register mip_number value) next)) new
   reads_no_pending : {h : ℕ} (next : Plan) {old new : Tells} → PendingNone h old new
-      → Step (still h (showing_mip h next)) old [] (still h (say (Line.RegisterRefused mip_number) next)) new
+      → Step (still h (showing_mip h next)) old [] (spot true Still h (say (Line.RegisterRefused mip_number) next)) new
   writes : {h number value : ℕ} (refused next : Plan) {old new : Tells} → Gave h number value old new → IsOfCores number → number ≢ pc_number
       → Step (still h (if csr_read_only number then refused else change (WriteReg h number value) next)) old [] (still h next) new
   writes_pc : {h value : ℕ} (refused next : Plan) {old mid new : Tells} → Gave h pc_number value old mid → HitsForgotten h mid new
       → Step (still h (if csr_read_only pc_number then refused else change (WriteReg h pc_number value) next)) old [] (still h next) new
   writes_none : {h number value : ℕ} (refused written : Plan) {old new : Tells} → GaveNone h number value old new → IsOfCores number
-      → Step (still h (if csr_read_only number then refused else written)) old [] (still h refused) new
+      → Step (still h (if csr_read_only number then refused else written)) old [] (spot (says_refused number refused) Still h refused) new
   sets_ebreakm : {h word : ℕ} {on : Bool} (next : Plan) {old mid new : Tells} → Got h dcsr_number word old mid
       → Gave h dcsr_number (with_ebreakm on word) mid new
       → Step (still h (change (EbreakHalts h on) next)) old [] (still h next) new
@@ -163,3 +165,9 @@ pub data Step : Place → Tells → List Line → Place → Tells → Type 0 whe
       → Stores path size value address done from (storing path size (element_at size address done) value faulted stored)
       → BlockStoredNone path size address value done old new
       → Step (place way h from) old [] (place way h faulted) new
+  -- one element in a call of its own
+  stores_element : {way : Way} {h address value : ℕ} {size : Size} (faulted stored : Plan) {old new : Tells} → ElementStored size address value old new
+      → Step (place way h (storing Bus size address value faulted stored)) old [] (place way h stored) new
+  stores_element_none : {way : Way} {h address value : ℕ} {size : Size} (faulted stored : Plan) {old new : Tells}
+      → ElementStoredNone size address value old new
+      → Step (place way h (storing Bus size address value faulted stored)) old [] (place way h faulted) new

@@ -20,6 +20,9 @@ ghost use Rattle.probe_session.specs.Reach.{AttachedBy};
 ghost use Rattle.probe_session.specs.Showing.{BytePut, RowCut, at_dump, byte_rows};
 ghost use Rattle.probe_session.specs.Shown.{AttachedShown, IsOfBlock, at_shown};
 ghost use Rattle.probe_run.specs.Told.{told, Fails, OnChip};
+ghost use Rattle.debug_model.specs.Rises.{Within};
+ghost use Rattle.probe_access.specs.BlockRises.{load_rises};
+ghost use Rattle.probe_session.specs.Budget.{rises_of_shown};
 
 use crate::fault::Failure;
 use crate::memory::Elements;
@@ -60,7 +63,7 @@ fn put_byte<K: Sink>(out: &mut K, first: u64, row: &mut Row, byte: u8) -> Result
 }
 
 /// Puts the rows of these bytes, upwards from an address; what a value holds above its byte is left out.
-fn put_bytes<K: Sink>(out: &mut K, address: u64, values: &[u64]) -> Result<(), Failure>
+pub fn put_bytes<K: Sink>(out: &mut K, address: u64, values: &[u64]) -> Result<(), Failure>
     requires ends { address + length values.now ≤ all_addresses }
     ensures put { OnOk result (K.contents out.new ≡ grown (text_of_all (byte_rows address [] (map (cut_to B1) values.now))) (K.contents out.old)) }
     ensures cut { OnErr result
@@ -98,6 +101,7 @@ pub(crate) fn put_rows<D: Dmi, K: Sink>(
         (told (D.seen link.old)) (told (D.seen link.new)) (K.fault_count out.old)
         (K.fault_count out.new) (K.contents out.old) (K.contents out.new)) }
     ensures selection { OnOk result (OnChip SelectionStays (D.seen link.old) (D.seen link.new)) }
+    ensures rises { Within (load_rises count) (D.seen link.old) (D.seen link.new) }
     ensures keeps { Goes (λ _. Attached) (D.seen link.old) (D.seen link.new) result }
     ensures sink_later { K.fault_count out.old ≤ K.fault_count out.new }
 {
@@ -127,6 +131,8 @@ impl Session {
             (told (D.seen link.old)) (told (D.seen link.new))) }
         ensures falls { IfErr result (Fails (Falls (before (command.Dump address count) (state_of self.now)) []) (D.seen link.old) (D.seen link.new)) }
         ensures knows { OnOk result (Knows (known_by self.now.path self.now.known) self.now.hart (D.seen link.new).far) }
+        ensures rises { Within 2 (D.seen link.old) (D.seen link.new) }
+        ensures few { IfOk result (λ shown. rises_of_shown shown ≤ load_rises count) }
         ensures keeps { Goes AttachedShown (D.seen link.old) (D.seen link.new) result }
         ensures block { IfOk result IsOfBlock }
     {

@@ -26,7 +26,7 @@ pub enum LostCause {
 
 /// Why a command did not come to its end.
 #[derive(Clone, Copy, Debug, PartialEq, Eq)]
-pub(crate) enum Failure {
+pub enum Failure {
     /// The wire failed.
     Wire(WireFault),
     /// The session is lost.

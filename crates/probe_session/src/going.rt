@@ -1,6 +1,6 @@
 //! `step` and `resume`: a halted hart goes on.
 
-ghost use Rattle.std.specs.Prelude.{◌≡◌, [], true, IfOk, IfErr, OnOk};
+ghost use Rattle.std.specs.Prelude.{◌≡◌, ◌*◌, ◌+◌, [], true, IfOk, IfErr, OnOk};
 ghost use Rattle.abstract_debugger.specs.Debugger.{going};
 ghost use Rattle.abstract_debugger.specs.Lines.Line.{Resumed};
 ghost use Rattle.abstract_debugger.specs.Plan.Plan.{say};
@@ -16,6 +16,7 @@ ghost use Rattle.probe_session.specs.Reach.{stepped};
 ghost use Rattle.probe_session.specs.Said.{said_by};
 ghost use Rattle.probe_session.specs.Steps.{any_in};
 ghost use Rattle.probe_run.specs.Told.{told, Fails};
+ghost use Rattle.debug_model.specs.Rises.{Within};
 
 use crate::fault::Failure;
 use crate::hart_lines::stop_line;
@@ -34,6 +35,7 @@ fn is_behind_step<D: Dmi>(link: &mut D, halted: &Halted, known: Known) -> Result
     requires knows { Knows known halted.now.number (D.seen link.old).far }
     ensures seen { IfOk result (StepSeen halted.now.number (told (D.seen link.old)) (told (D.seen link.new))) }
     ensures fell { IfErr result (Fails (ReadFell halted.now.number dcsr_number) (D.seen link.old) (D.seen link.new)) }
+    ensures rises { Within 16 (D.seen link.old) (D.seen link.new) }
     ensures keeps { Goes (λ _. AttachedHalted halted.now.number) (D.seen link.old) (D.seen link.new) result }
 {
     if known.is_stepped() {
@@ -44,12 +46,13 @@ fn is_behind_step<D: Dmi>(link: &mut D, halted: &Halted, known: Known) -> Result
 }
 
 /// Makes one single step of a halted hart, of which this is known. Where it halted behind a whole step none of its slots is visited.
-fn step_once<D: Dmi>(link: &mut D, halted: Halted, known: Known) -> Result<Halted, Failure>
+pub fn step_once<D: Dmi>(link: &mut D, halted: Halted, known: Known) -> Result<Halted, Failure>
     requires serving { AttachedHalted halted.number (D.seen link.old) }
     requires knows { Knows known halted.number (D.seen link.old).far }
     ensures went { OnOk result (Went (at_one halted.number) (behind_one halted.number) [] (told (D.seen link.old)) (told (D.seen link.new))) }
     ensures falls { IfErr result (Fails (Falls (at_one halted.number) []) (D.seen link.old) (D.seen link.new)) }
     ensures hart { IfOk result (λ again. again.number ≡ halted.number) }
+    ensures rises { Within 385 (D.seen link.old) (D.seen link.new) }
     ensures keeps { Goes (λ _. AttachedHalted halted.number) (D.seen link.old) (D.seen link.new) result }
 {
     if known.is_stepped() {
@@ -70,6 +73,7 @@ fn more_steps_line<D: Dmi>(link: &mut D, halted: Halted, more: u16) -> Result<Li
         (told (D.seen link.new))) }
     ensures falls { IfErr result (Fails (Falls (behind_first more halted.number) []) (D.seen link.old) (D.seen link.new)) }
     ensures whole { IfOk result (λ line. says_step line ≡ true → StandsStepped halted.number (D.seen link.new).far) }
+    ensures rises { Within (50 * more + 210) (D.seen link.old) (D.seen link.new) }
     ensures keeps { Goes (λ _. AttachedAt halted.number) (D.seen link.old) (D.seen link.new) result }
 {
     let mut now = halted;
@@ -96,6 +100,7 @@ pub(crate) fn stepped_line<D: Dmi>(
         (ends_with (said_by line)) [] (told (D.seen link.old)) (told (D.seen link.new))) }
     ensures falls { IfErr result (Fails (Falls (λ next. still halted.number (stepped count halted.number next)) []) (D.seen link.old) (D.seen link.new)) }
     ensures whole { IfOk result (λ line. says_step line ≡ true → StandsStepped halted.number (D.seen link.new).far) }
+    ensures rises { Within (50 * count + 545) (D.seen link.old) (D.seen link.new) }
     ensures keeps { Goes (λ _. AttachedAt halted.number) (D.seen link.old) (D.seen link.new) result }
 {
     if count == 0 {
@@ -106,7 +111,7 @@ pub(crate) fn stepped_line<D: Dmi>(
 }
 
 /// Whether any slot has a hit.
-fn has_any(view: &SlotView) -> bool
+pub fn has_any(view: &SlotView) -> bool
     ensures { result ≡ any_in view.now }
 {
     let hits = view.hits;
@@ -114,11 +119,12 @@ fn has_any(view: &SlotView) -> bool
 }
 
 /// Lets a hart go that none of its slots holds back.
-fn free_line<D: Dmi>(link: &mut D, halted: Halted) -> Result<Line, Failure>
+pub fn free_line<D: Dmi>(link: &mut D, halted: Halted) -> Result<Line, Failure>
     requires serving { AttachedHalted halted.number (D.seen link.old) }
     ensures went { IfOk result (λ line. Went (λ next. ready halted.number (going halted.number (say Resumed next)))
         (ends_with (said_by line)) [] (told (D.seen link.old)) (told (D.seen link.new))) }
     ensures falls { IfErr result (Fails (Falls (λ next. ready halted.number (going halted.number (say Resumed next))) []) (D.seen link.old) (D.seen link.new)) }
+    ensures rises { Within 2 (D.seen link.old) (D.seen link.new) }
     ensures keeps { Goes (λ _. AttachedAt halted.number) (D.seen link.old) (D.seen link.new) result }
 {
     halted.resume(link)?;
@@ -132,6 +138,7 @@ fn let_go_over_line<D: Dmi>(link: &mut D, halted: Halted) -> Result<Line, Failur
     ensures went { IfOk result (λ line. Went (at_letting_go halted.number) (ends_with (said_by line)) [] (told (D.seen link.old))
         (told (D.seen link.new))) }
     ensures falls { IfErr result (Fails (Falls (at_letting_go halted.number) []) (D.seen link.old) (D.seen link.new)) }
+    ensures rises { Within 779 (D.seen link.old) (D.seen link.new) }
     ensures keeps { Goes (λ _. AttachedAt halted.number) (D.seen link.old) (D.seen link.new) result }
 {
     let seen = slots(link, &halted)?;
@@ -157,6 +164,7 @@ pub(crate) fn let_go_line<D: Dmi>(
     ensures went { IfOk result (λ line. Went (at_letting_go halted.number) (ends_with (said_by line)) [] (told (D.seen link.old))
         (told (D.seen link.new))) }
     ensures falls { IfErr result (Fails (Falls (at_letting_go halted.number) []) (D.seen link.old) (D.seen link.new)) }
+    ensures rises { Within 795 (D.seen link.old) (D.seen link.new) }
     ensures keeps { Goes (λ _. AttachedAt halted.number) (D.seen link.old) (D.seen link.new) result }
 {
     if is_behind_step(link, &halted, known)? {

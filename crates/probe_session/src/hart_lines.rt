@@ -13,6 +13,7 @@ ghost use Rattle.probe_session.specs.Slots.{what_of};
 ghost use Rattle.probe_session.specs.Steps.{with_ebreakm};
 ghost use Rattle.probe_trig.specs.SlotRegisters.{CanArm};
 ghost use Rattle.probe_run.specs.Told.{told, Fails};
+ghost use Rattle.debug_model.specs.Rises.{Within};
 
 use crate::fault::Failure;
 use crate::registers::{pending_or_none, reg, reg_or_none, set_reg_if_taken};
@@ -24,13 +25,14 @@ use probe_run::Halted;
 use rv_model::{Cause, Dcsr, SlotSet, register_number};
 
 /// The line that says where the hart stands, and why; beside a trigger, with the slots that have a hit.
-pub(crate) fn stop_line<D: Dmi>(link: &mut D, halted: &Halted) -> Result<Line, Failure>
+pub fn stop_line<D: Dmi>(link: &mut D, halted: &Halted) -> Result<Line, Failure>
     requires serving { AttachedHalted halted.now.number (D.seen link.old) }
     ensures went { IfOk result
         (λ line. Went (at_stop_line halted.now.number) (ends_with (said_by line)) [] (told (D.seen link.old))
         (told (D.seen link.new))) }
     ensures falls { IfErr result (Fails (Falls (at_stop_line halted.now.number) []) (D.seen link.old) (D.seen link.new)) }
     ensures whole { IfOk result (λ line. says_step line ≡ true → StandsStepped halted.now.number (D.seen link.new).far) }
+    ensures rises { Within 210 (D.seen link.old) (D.seen link.new) }
     ensures keeps { Goes (λ _. AttachedAt halted.now.number) (D.seen link.old) (D.seen link.new) result }
 {
     let at = stop(link, halted)?;
@@ -56,6 +58,7 @@ fn pending_line<D: Dmi>(link: &mut D, halted: &Halted) -> Result<Line, Failure>
         (λ line. Went (at_register halted.now.number mip_number) (ends_with (said_by line)) [] (told (D.seen link.old))
         (told (D.seen link.new))) }
     ensures falls { IfErr result (Fails (Falls (at_register halted.now.number mip_number) []) (D.seen link.old) (D.seen link.new)) }
+    ensures rises { Within 16 (D.seen link.old) (D.seen link.new) }
     ensures keeps { Goes (λ _. AttachedAt halted.now.number) (D.seen link.old) (D.seen link.new) result }
 {
     match pending_or_none(link, halted)? {
@@ -73,6 +76,7 @@ fn held_line<D: Dmi>(link: &mut D, halted: &Halted, number: u16) -> Result<Line,
         (λ line. Went (at_register halted.now.number number) (ends_with (said_by line)) [] (told (D.seen link.old))
         (told (D.seen link.new))) }
     ensures falls { IfErr result (Fails (Falls (at_register halted.now.number number) []) (D.seen link.old) (D.seen link.new)) }
+    ensures rises { Within 16 (D.seen link.old) (D.seen link.new) }
     ensures keeps { Goes (λ _. AttachedAt halted.now.number) (D.seen link.old) (D.seen link.new) result }
 {
     match reg_or_none(link, halted, number)? {
@@ -93,6 +97,7 @@ pub(crate) fn register_line<D: Dmi>(
         (λ line. Went (at_register halted.now.number number) (ends_with (said_by line)) [] (told (D.seen link.old))
         (told (D.seen link.new))) }
     ensures falls { IfErr result (Fails (Falls (at_register halted.now.number number) []) (D.seen link.old) (D.seen link.new)) }
+    ensures rises { Within 16 (D.seen link.old) (D.seen link.new) }
     ensures keeps { Goes (λ _. AttachedAt halted.now.number) (D.seen link.old) (D.seen link.new) result }
 {
     if number == register_number::MIP {
@@ -113,6 +118,7 @@ pub(crate) fn written_register_line<D: Dmi>(
     ensures went { IfOk result (λ line. Went (at_written_register halted.now.number number value) (ends_with (said_by line)) []
         (told (D.seen link.old)) (told (D.seen link.new))) }
     ensures falls { IfErr result (Fails (Falls (at_written_register halted.now.number number value) []) (D.seen link.old) (D.seen link.new)) }
+    ensures rises { Within 176 (D.seen link.old) (D.seen link.new) }
     ensures keeps { Goes (λ _. AttachedAt halted.now.number) (D.seen link.old) (D.seen link.new) result }
 {
     if !set_reg_if_taken(link, halted, number, value)? {
@@ -147,6 +153,7 @@ pub(crate) fn ebreak_line<D: Dmi>(
         (λ line. Went (at_ebreak halted.now.number is_on) (ends_with (said_by line)) [] (told (D.seen link.old))
         (told (D.seen link.new))) }
     ensures falls { IfErr result (Fails (Falls (at_ebreak halted.now.number is_on) []) (D.seen link.old) (D.seen link.new)) }
+    ensures rises { Within 24 (D.seen link.old) (D.seen link.new) }
     ensures keeps { Goes (λ _. AttachedAt halted.now.number) (D.seen link.old) (D.seen link.new) result }
 {
     let word = reg(link, halted, register_number::DCSR)?;
@@ -171,6 +178,7 @@ pub(crate) fn armed_line<D: Dmi>(
         (λ line. Went (at_arming halted.now.number (what_of what)) (ends_with (said_by line)) [] (told (D.seen link.old))
         (told (D.seen link.new))) }
     ensures falls { IfErr result (Fails (Falls (at_arming halted.now.number (what_of what)) []) (D.seen link.old) (D.seen link.new)) }
+    ensures rises { Within 152 (D.seen link.old) (D.seen link.new) }
     ensures keeps { Goes (λ _. AttachedAt halted.now.number) (D.seen link.old) (D.seen link.new) result }
 {
     match arm(link, halted, what)? {
@@ -187,6 +195,7 @@ pub(crate) fn freed_line<D: Dmi>(link: &mut D, halted: &Halted, slot: u8) -> Res
         (λ line. Went (at_freeing halted.now.number slot) (ends_with (said_by line)) [] (told (D.seen link.old))
         (told (D.seen link.new))) }
     ensures falls { IfErr result (Fails (Falls (at_freeing halted.now.number slot) []) (D.seen link.old) (D.seen link.new)) }
+    ensures rises { Within 56 (D.seen link.old) (D.seen link.new) }
     ensures keeps { Goes (λ _. AttachedAt halted.now.number) (D.seen link.old) (D.seen link.new) result }
 {
     if disarm(link, halted, slot)? {

@@ -10,7 +10,7 @@ use rv_model::Cause;
 
 /// What is known of the session's hart.
 #[derive(Clone, Copy, Debug, PartialEq, Eq)]
-pub(crate) enum Known {
+pub enum Known {
     /// Nothing.
     Nothing,
     /// The debug module selects it.

@@ -5,6 +5,7 @@ ghost use Rattle.probe_session.specs.Known.{Knows};
 ghost use Rattle.probe_session.specs.Links.{Attached, AttachedAt, Goes};
 ghost use Rattle.probe_session.specs.Seen.{IsOf};
 ghost use Rattle.probe_run.specs.Told.{told, Fails};
+ghost use Rattle.debug_model.specs.Rises.{Within};
 
 use crate::fault::Failure;
 use crate::known::Known;
@@ -26,6 +27,7 @@ pub(crate) fn look<D: Dmi>(
     ensures seen { IfOk result (IsAsSeen (D.seen link.new).far) }
     ensures of { IfOk result (IsOf hart) }
     ensures still { OnOk result (Knows known hart (D.seen link.new).far) }
+    ensures rises { Within 2 (D.seen link.old) (D.seen link.new) }
     ensures keeps { Goes (λ _. AttachedAt hart) (D.seen link.old) (D.seen link.new) result }
 {
     if known.is_selected() {

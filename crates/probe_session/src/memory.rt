@@ -10,6 +10,8 @@ ghost use Rattle.probe_session.specs.BlockCalls.{BlockLoadFell, BlockStoreFell};
 ghost use Rattle.probe_session.specs.Links.{Attached, AttachedHalted, Goes};
 ghost use Rattle.probe_session.specs.Answers.{BlockLoadedAs, BlockStoredAs};
 ghost use Rattle.probe_run.specs.Told.{told, Fails};
+ghost use Rattle.debug_model.specs.Rises.{Within};
+ghost use Rattle.probe_access.specs.BlockRises.{bus_load_rises, bus_store_rises, load_rises, store_rises};
 
 use crate::fault::Failure;
 use arrayvec::ArrayVec;
@@ -19,7 +21,7 @@ use probe_run::Halted;
 use rv_model::Size;
 
 /// The elements of a block that were loaded, as they were handed out: a register may hold more above the size.
-pub(crate) type Elements = ArrayVec<u64, ELEMENTS_MOST>;
+pub type Elements = ArrayVec<u64, ELEMENTS_MOST>;
 
 /// Loads a block by the halted hart. It answers whether memory held it whole: where not, `into` holds the elements in front of the one that was refused.
 pub(crate) fn load<D: Dmi>(
@@ -37,6 +39,7 @@ pub(crate) fn load<D: Dmi>(
     ensures loaded { IfOk result (BlockLoadedAs Progbuf size address count (map (cut_to size) into.new.items) (told (D.seen link.old))
         (told (D.seen link.new))) }
     ensures fell { IfErr result (Fails (BlockLoadFell Progbuf size address count) (D.seen link.old) (D.seen link.new)) }
+    ensures rises { Within (load_rises count) (D.seen link.old) (D.seen link.new) }
     ensures keeps { Goes (λ _. AttachedHalted halted.now.number) (D.seen link.old) (D.seen link.new) result }
 {
     match probe_access::load_block(link, halted, size, address, count, into) {
@@ -62,6 +65,7 @@ pub(crate) fn store<D: Dmi>(
     requires block { IsBlock (count_of size) address count }
     ensures stored { IfOk result (BlockStoredAs Progbuf size address value count (told (D.seen link.old)) (told (D.seen link.new))) }
     ensures fell { IfErr result (Fails (BlockStoreFell Progbuf size address value count) (D.seen link.old) (D.seen link.new)) }
+    ensures rises { Within (store_rises count) (D.seen link.old) (D.seen link.new) }
     ensures keeps { Goes (λ _. AttachedHalted halted.now.number) (D.seen link.old) (D.seen link.new) result }
 {
     match probe_access::store_block(link, halted, size, address, count, value) {
@@ -88,6 +92,7 @@ pub(crate) fn bus_load<D: Dmi>(
     ensures loaded { IfOk result (BlockLoadedAs Bus size address count (map (cut_to size) into.new.items) (told (D.seen link.old))
         (told (D.seen link.new))) }
     ensures fell { IfErr result (Fails (BlockLoadFell Bus size address count) (D.seen link.old) (D.seen link.new)) }
+    ensures rises { Within (bus_load_rises count) (D.seen link.old) (D.seen link.new) }
     ensures keeps { Goes (λ _. Attached) (D.seen link.old) (D.seen link.new) result }
 {
     match probe_access::bus_load_block(link, size, address, count, into) {
@@ -112,6 +117,7 @@ pub(crate) fn bus_store<D: Dmi>(
     requires block { IsBlock (count_of size) address count }
     ensures stored { IfOk result (BlockStoredAs Bus size address value count (told (D.seen link.old)) (told (D.seen link.new))) }
     ensures fell { IfErr result (Fails (BlockStoreFell Bus size address value count) (D.seen link.old) (D.seen link.new)) }
+    ensures rises { Within (bus_store_rises count) (D.seen link.old) (D.seen link.new) }
     ensures keeps { Goes (λ _. Attached) (D.seen link.old) (D.seen link.new) result }
 {
     match probe_access::bus_store_block(link, size, address, count, value) {

@@ -3,8 +3,9 @@ ghost use Rattle.debug_model.specs.Told.{Selects};
 ghost use Rattle.probe_session.specs.Goes.{Falls};
 ghost use Rattle.probe_session.specs.Known.{Knows};
 ghost use Rattle.probe_session.specs.Links.{Attached, Goes};
-ghost use Rattle.probe_session.specs.Met.{MetAs, AttachedMet, SaysNoStep, before_look};
+ghost use Rattle.probe_session.specs.Met.{MetAs, AttachedMet, SaysError, SaysNoStep, before_look};
 ghost use Rattle.probe_run.specs.Told.{told, Fails};
+ghost use Rattle.debug_model.specs.Rises.{Within};
 
 use crate::fault::Failure;
 use crate::known::Known;
@@ -15,7 +16,7 @@ use probe_run::{Halted, Seen, Target};
 
 /// What the Look of a command for a halted hart comes to.
 #[derive(Drop)]
-pub(crate) enum Met {
+pub enum Met {
     /// The hart is halted.
     At(Halted),
     /// It is not there, or runs: this line says so.
@@ -23,12 +24,7 @@ pub(crate) enum Met {
 }
 
 /// The Look of a command for a halted hart, of which this is known.
-pub(crate) fn meet<D: Dmi>(
-    link: &mut D,
-    target: &Target,
-    hart: u16,
-    known: Known,
-) -> Result<Met, Failure>
+pub fn meet<D: Dmi>(link: &mut D, target: &Target, hart: u16, known: Known) -> Result<Met, Failure>
     requires hart { hart < 2 ^ 10 }
     requires serving { Attached (D.seen link.old) }
     requires knows { Knows known hart (D.seen link.old).far }
@@ -37,6 +33,8 @@ pub(crate) fn meet<D: Dmi>(
     ensures selects { OnOk result (Selects hart (D.seen link.new).far) }
     ensures still { OnOk result (Knows known hart (D.seen link.new).far) }
     ensures says { IfOk result SaysNoStep }
+    ensures error { IfOk result SaysError }
+    ensures rises { Within 2 (D.seen link.old) (D.seen link.new) }
     ensures keeps { Goes AttachedMet (D.seen link.old) (D.seen link.new) result }
 {
     match look(link, target, hart, known)? {

@@ -1,6 +1,6 @@
 //! The commands of one line.
 
-ghost use Rattle.std.specs.Prelude.{◌≡◌, ◌≤◌, ◌<◌, ◌^◌, [], true, IfOk, IfErr, OnOk, IsTrue};
+ghost use Rattle.std.specs.Prelude.{◌≡◌, ◌≤◌, ◌<◌, ◌^◌, ◌*◌, ◌+◌, [], true, IfOk, IfErr, OnOk, IsTrue};
 ghost use Rattle.debug_model.specs.Command.{IsBlock, last_slot, most_turns};
 ghost use Rattle.abstract_debugger.specs.Lines.Line.{Via};
 ghost use Rattle.rv_model.specs.Size.{count_of};
@@ -12,6 +12,8 @@ ghost use Rattle.probe_session.specs.Known.{Knows, StandsStepped, known_by, says
 ghost use Rattle.probe_session.specs.Links.{Attached, AttachedAt, Goes};
 ghost use Rattle.probe_session.specs.Said.{said_by};
 ghost use Rattle.probe_run.specs.Told.{told, Fails};
+ghost use Rattle.debug_model.specs.Rises.{Within};
+ghost use Rattle.probe_access.specs.BlockRises.{store_rises};
 
 use crate::fault::Failure;
 use crate::going::{let_go_line, stepped_line};
@@ -37,6 +39,7 @@ impl Session {
         ensures went { IfOk result (λ line. Went (before (command.Hart hart) (state_of self.old)) (at_line (said_by line) (state_of self.new)) []
             (told (D.seen link.old)) (told (D.seen link.new))) }
         ensures falls { IfErr result (Fails (Falls (before (command.Hart hart) (state_of self.old)) []) (D.seen link.old) (D.seen link.new)) }
+        ensures rises { Within 2 (D.seen link.old) (D.seen link.new) }
         ensures keeps { Goes (λ _. AttachedAt hart) (D.seen link.old) (D.seen link.new) result }
     {
         match look(link, &self.target, hart, Known::Nothing)? {
@@ -59,6 +62,7 @@ impl Session {
         ensures went { IfOk result (λ line. Went (before (command.State) (state_of self.now)) (at_line (said_by line) (state_of self.now)) []
             (told (D.seen link.old)) (told (D.seen link.new))) }
         ensures falls { IfErr result (Fails (Falls (before (command.State) (state_of self.now)) []) (D.seen link.old) (D.seen link.new)) }
+        ensures rises { Within 212 (D.seen link.old) (D.seen link.new) }
         ensures keeps { Goes (λ _. AttachedAt self.now.hart) (D.seen link.old) (D.seen link.new) result }
     {
         match look(link, &self.target, self.hart, self.known)? {
@@ -75,6 +79,7 @@ impl Session {
         ensures went { IfOk result (λ line. Went (before (command.Halt) (state_of self.now)) (at_line (said_by line) (state_of self.now)) []
             (told (D.seen link.old)) (told (D.seen link.new))) }
         ensures falls { IfErr result (Fails (Falls (before (command.Halt) (state_of self.now)) []) (D.seen link.old) (D.seen link.new)) }
+        ensures rises { Within 215 (D.seen link.old) (D.seen link.new) }
         ensures keeps { Goes (λ _. AttachedAt self.now.hart) (D.seen link.old) (D.seen link.new) result }
     {
         match look(link, &self.target, self.hart, self.known)? {
@@ -95,6 +100,7 @@ impl Session {
         ensures went { IfOk result (λ line. Went (before (command.Wait looks) (state_of self.now)) (at_line (said_by line) (state_of self.now)) []
             (told (D.seen link.old)) (told (D.seen link.new))) }
         ensures falls { IfErr result (Fails (Falls (before (command.Wait looks) (state_of self.now)) []) (D.seen link.old) (D.seen link.new)) }
+        ensures rises { Within (2 * looks + 210) (D.seen link.old) (D.seen link.new) }
         ensures keeps { Goes (λ _. AttachedAt self.now.hart) (D.seen link.old) (D.seen link.new) result }
     {
         let mut known = self.known;
@@ -117,6 +123,7 @@ impl Session {
         ensures went { IfOk result (λ line. Went (before (command.Reg name) (state_of self.now)) (at_line (said_by line) (state_of self.now)) []
             (told (D.seen link.old)) (told (D.seen link.new))) }
         ensures falls { IfErr result (Fails (Falls (before (command.Reg name) (state_of self.now)) []) (D.seen link.old) (D.seen link.new)) }
+        ensures rises { Within 18 (D.seen link.old) (D.seen link.new) }
         ensures keeps { Goes (λ _. AttachedAt self.now.hart) (D.seen link.old) (D.seen link.new) result }
     {
         match meet(link, &self.target, self.hart, self.known)? {
@@ -139,6 +146,7 @@ impl Session {
             (λ line. Went (before (command.SetReg name value) (state_of self.now)) (at_line (said_by line) (state_of self.now)) []
             (told (D.seen link.old)) (told (D.seen link.new))) }
         ensures falls { IfErr result (Fails (Falls (before (command.SetReg name value) (state_of self.now)) []) (D.seen link.old) (D.seen link.new)) }
+        ensures rises { Within 178 (D.seen link.old) (D.seen link.new) }
         ensures keeps { Goes (λ _. AttachedAt self.now.hart) (D.seen link.old) (D.seen link.new) result }
     {
         match meet(link, &self.target, self.hart, self.known)? {
@@ -154,6 +162,7 @@ impl Session {
         ensures went { IfOk result (λ line. Went (before (command.Ebreak is_on) (state_of self.now)) (at_line (said_by line) (state_of self.now)) []
             (told (D.seen link.old)) (told (D.seen link.new))) }
         ensures falls { IfErr result (Fails (Falls (before (command.Ebreak is_on) (state_of self.now)) []) (D.seen link.old) (D.seen link.new)) }
+        ensures rises { Within 26 (D.seen link.old) (D.seen link.new) }
         ensures keeps { Goes (λ _. AttachedAt self.now.hart) (D.seen link.old) (D.seen link.new) result }
     {
         match meet(link, &self.target, self.hart, self.known)? {
@@ -169,6 +178,7 @@ impl Session {
         ensures went { IfOk result (λ line. Went (before (command.Break address) (state_of self.now)) (at_line (said_by line) (state_of self.now)) []
             (told (D.seen link.old)) (told (D.seen link.new))) }
         ensures falls { IfErr result (Fails (Falls (before (command.Break address) (state_of self.now)) []) (D.seen link.old) (D.seen link.new)) }
+        ensures rises { Within 154 (D.seen link.old) (D.seen link.new) }
         ensures keeps { Goes (λ _. AttachedAt self.now.hart) (D.seen link.old) (D.seen link.new) result }
     {
         match meet(link, &self.target, self.hart, self.known)? {
@@ -190,6 +200,7 @@ impl Session {
             (λ line. Went (before (command.Watch kind address) (state_of self.now)) (at_line (said_by line) (state_of self.now)) []
             (told (D.seen link.old)) (told (D.seen link.new))) }
         ensures falls { IfErr result (Fails (Falls (before (command.Watch kind address) (state_of self.now)) []) (D.seen link.old) (D.seen link.new)) }
+        ensures rises { Within 154 (D.seen link.old) (D.seen link.new) }
         ensures keeps { Goes (λ _. AttachedAt self.now.hart) (D.seen link.old) (D.seen link.new) result }
     {
         match meet(link, &self.target, self.hart, self.known)? {
@@ -206,6 +217,7 @@ impl Session {
         ensures went { IfOk result (λ line. Went (before (command.Count turns) (state_of self.now)) (at_line (said_by line) (state_of self.now)) []
             (told (D.seen link.old)) (told (D.seen link.new))) }
         ensures falls { IfErr result (Fails (Falls (before (command.Count turns) (state_of self.now)) []) (D.seen link.old) (D.seen link.new)) }
+        ensures rises { Within 154 (D.seen link.old) (D.seen link.new) }
         ensures keeps { Goes (λ _. AttachedAt self.now.hart) (D.seen link.old) (D.seen link.new) result }
     {
         match meet(link, &self.target, self.hart, self.known)? {
@@ -222,6 +234,7 @@ impl Session {
         ensures went { IfOk result (λ line. Went (before (command.Clear slot) (state_of self.now)) (at_line (said_by line) (state_of self.now)) []
             (told (D.seen link.old)) (told (D.seen link.new))) }
         ensures falls { IfErr result (Fails (Falls (before (command.Clear slot) (state_of self.now)) []) (D.seen link.old) (D.seen link.new)) }
+        ensures rises { Within 58 (D.seen link.old) (D.seen link.new) }
         ensures keeps { Goes (λ _. AttachedAt self.now.hart) (D.seen link.old) (D.seen link.new) result }
     {
         match meet(link, &self.target, self.hart, self.known)? {
@@ -238,6 +251,7 @@ impl Session {
             (told (D.seen link.old)) (told (D.seen link.new))) }
         ensures falls { IfErr result (Fails (Falls (before (command.Step count) (state_of self.now)) []) (D.seen link.old) (D.seen link.new)) }
         ensures whole { IfOk result (λ line. says_step line ≡ true → StandsStepped self.now.hart (D.seen link.new).far) }
+        ensures rises { Within (50 * count + 547) (D.seen link.old) (D.seen link.new) }
         ensures keeps { Goes (λ _. AttachedAt self.now.hart) (D.seen link.old) (D.seen link.new) result }
     {
         match meet(link, &self.target, self.hart, self.known)? {
@@ -253,6 +267,7 @@ impl Session {
         ensures went { IfOk result (λ line. Went (before (command.Resume) (state_of self.now)) (at_line (said_by line) (state_of self.now)) []
             (told (D.seen link.old)) (told (D.seen link.new))) }
         ensures falls { IfErr result (Fails (Falls (before (command.Resume) (state_of self.now)) []) (D.seen link.old) (D.seen link.new)) }
+        ensures rises { Within 797 (D.seen link.old) (D.seen link.new) }
         ensures keeps { Goes (λ _. AttachedAt self.now.hart) (D.seen link.old) (D.seen link.new) result }
     {
         match meet(link, &self.target, self.hart, self.known)? {
@@ -279,6 +294,7 @@ impl Session {
         ensures falls { IfErr result (Fails (Falls (before (command.Write size address value count) (state_of self.now)) [])
             (D.seen link.old) (D.seen link.new)) }
         ensures knows { OnOk result (Knows (known_by self.now.path self.now.known) self.now.hart (D.seen link.new).far) }
+        ensures rises { Within (store_rises count + 2) (D.seen link.old) (D.seen link.new) }
         ensures keeps { Goes (λ _. Attached) (D.seen link.old) (D.seen link.new) result }
     {
         match self.reach(link)? {

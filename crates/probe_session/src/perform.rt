@@ -1,6 +1,6 @@
 //! The commands, by their kind.
 
-ghost use Rattle.std.specs.Prelude.{[], IfOk, IfErr, IfSome};
+ghost use Rattle.std.specs.Prelude.{◌≤◌, ◌+◌, [], IfOk, IfErr, IfSome};
 ghost use Rattle.debug_model.specs.Command.{IsWithinRanges};
 ghost use Rattle.probe_session.specs.Commands.{before, state_of};
 ghost use Rattle.probe_session.specs.Goes.{Falls};
@@ -8,6 +8,8 @@ ghost use Rattle.probe_session.specs.Known.{Knows, known_behind};
 ghost use Rattle.probe_session.specs.Links.{Attached, Goes};
 ghost use Rattle.probe_session.specs.Shown.{AttachedUpTo, DoneUpTo, IsOfBlock};
 ghost use Rattle.probe_run.specs.Told.{told, Fails};
+ghost use Rattle.debug_model.specs.Rises.{Within};
+ghost use Rattle.probe_session.specs.Budget.{command_rises, rises_of_shown, rises_up_to};
 
 use crate::fault::Failure;
 use crate::identity::idcode_line;
@@ -27,6 +29,8 @@ impl Session {
         requires knows { Knows self.old.known self.old.hart (D.seen link.old).far }
         ensures did { IfOk result (DoneUpTo command (state_of self.old) (state_of self.new) (told (D.seen link.old)) (told (D.seen link.new))) }
         ensures falls { IfErr result (Fails (Falls (before command (state_of self.old)) []) (D.seen link.old) (D.seen link.new)) }
+        ensures rises { Within (rises_up_to command) (D.seen link.old) (D.seen link.new) }
+        ensures few { IfOk result (λ shown. IfSome shown (λ s. rises_up_to command + rises_of_shown s ≤ command_rises command)) }
         ensures keeps { Goes AttachedUpTo (D.seen link.old) (D.seen link.new) result }
         ensures knows { IfOk result (λ shown. Knows (known_behind command shown self.new.hart self.new.path self.new.known) self.new.hart
             (D.seen link.new).far) }

@@ -10,7 +10,7 @@ use jt_base::Sink;
 use printed_lines::Line;
 
 /// Writes one line.
-pub(crate) fn put_line<K: Sink>(out: &mut K, line: &Line) -> Result<(), Failure>
+pub fn put_line<K: Sink>(out: &mut K, line: &Line) -> Result<(), Failure>
     ensures put { OnOk result (K.contents out.new ≡ grown (text_of (said_by line.now)) (K.contents out.old)) }
     ensures front { OnErr result (GrewByPrefix (text_of (said_by line.now)) (K.contents out.old) (K.contents out.new)) }
     ensures sink { IfErr result (λ f. f ≡ failure.Sink) }

@@ -13,6 +13,8 @@ ghost use Rattle.probe_session.specs.Known.{Knows, known_by};
 ghost use Rattle.probe_session.specs.Links.{Attached, Goes, SelectionStays};
 ghost use Rattle.probe_session.specs.Reach.{ReachedAs, AttachedBy, AttachedReached, before_reach, path_by};
 ghost use Rattle.probe_run.specs.Told.{told, Fails, OnChip};
+ghost use Rattle.debug_model.specs.Rises.{Within};
+ghost use Rattle.probe_access.specs.BlockRises.{load_rises, store_rises};
 
 use crate::fault::Failure;
 use crate::memory::{Elements, bus_load, bus_store, load, store};
@@ -25,7 +27,7 @@ use rv_model::Size;
 
 /// How a command reaches memory.
 #[derive(Drop)]
-pub(crate) enum Reach {
+pub enum Reach {
     /// By this hart, which is halted.
     Hart(Halted),
     /// By the system bus.
@@ -34,7 +36,7 @@ pub(crate) enum Reach {
 
 /// What a command for memory comes to in front of its accesses.
 #[derive(Drop)]
-pub(crate) enum Reached {
+pub enum Reached {
     /// They can be made.
     By(Reach),
     /// There is no halted hart to make them: this line says so.
@@ -43,13 +45,14 @@ pub(crate) enum Reached {
 
 impl Session {
     /// The way to memory that was chosen, with a Look of the hart where that needs one.
-    pub(crate) fn reach<D: Dmi>(&self, link: &mut D) -> Result<Reached, Failure>
+    pub fn reach<D: Dmi>(&self, link: &mut D) -> Result<Reached, Failure>
         requires serving { Attached (D.seen link.old) }
         requires knows { Knows self.now.known self.now.hart (D.seen link.old).far }
         ensures reached { IfOk result
             (ReachedAs (state_of self.now) (told (D.seen link.old)) (told (D.seen link.new))) }
         ensures falls { IfErr result (Fails (Falls (before_reach (state_of self.now)) []) (D.seen link.old) (D.seen link.new)) }
         ensures knows { OnOk result (Knows (known_by self.now.path self.now.known) self.now.hart (D.seen link.new).far) }
+        ensures rises { Within 2 (D.seen link.old) (D.seen link.new) }
         ensures keeps { Goes AttachedReached (D.seen link.old) (D.seen link.new) result }
     {
         match self.path {
@@ -63,7 +66,7 @@ impl Session {
 }
 
 /// Loads a block. It answers whether memory held it whole: where not, `into` holds the elements in front of the one that was refused.
-pub(crate) fn load_by<D: Dmi>(
+pub fn load_by<D: Dmi>(
     link: &mut D,
     reach: &Reach,
     size: Size,
@@ -79,6 +82,7 @@ pub(crate) fn load_by<D: Dmi>(
         (told (D.seen link.new))) }
     ensures fell { IfErr result (Fails (BlockLoadFell (path_by reach.now) size address count) (D.seen link.old) (D.seen link.new)) }
     ensures selection { OnOk result (OnChip SelectionStays (D.seen link.old) (D.seen link.new)) }
+    ensures rises { Within (load_rises count) (D.seen link.old) (D.seen link.new) }
     ensures keeps { Goes (λ _. AttachedBy reach.now) (D.seen link.old) (D.seen link.new) result }
 {
     match reach {
@@ -88,7 +92,7 @@ pub(crate) fn load_by<D: Dmi>(
 }
 
 /// Stores a value to each element of a block. It answers the address of the first element that memory refused: none where it took them all.
-pub(crate) fn store_by<D: Dmi>(
+pub fn store_by<D: Dmi>(
     link: &mut D,
     reach: &Reach,
     size: Size,
@@ -102,6 +106,7 @@ pub(crate) fn store_by<D: Dmi>(
     ensures stored { IfOk result (BlockStoredAs (path_by reach.now) size address value count (told (D.seen link.old)) (told (D.seen link.new))) }
     ensures fell { IfErr result (Fails (BlockStoreFell (path_by reach.now) size address value count) (D.seen link.old) (D.seen link.new)) }
     ensures selection { OnOk result (OnChip SelectionStays (D.seen link.old) (D.seen link.new)) }
+    ensures rises { Within (store_rises count) (D.seen link.old) (D.seen link.new) }
     ensures keeps { Goes (λ _. AttachedBy reach.now) (D.seen link.old) (D.seen link.new) result }
 {
     match reach {

@@ -19,6 +19,9 @@ ghost use Rattle.probe_session.specs.Reach.{AttachedBy};
 ghost use Rattle.probe_session.specs.Showing.{at_read, element_lines};
 ghost use Rattle.probe_session.specs.Shown.{AttachedShown, IsOfBlock, at_shown};
 ghost use Rattle.probe_run.specs.Told.{told, Fails, OnChip};
+ghost use Rattle.debug_model.specs.Rises.{Within};
+ghost use Rattle.probe_access.specs.BlockRises.{load_rises};
+ghost use Rattle.probe_session.specs.Budget.{rises_of_shown};
 
 use crate::fault::Failure;
 use crate::memory::Elements;
@@ -33,7 +36,12 @@ use probe_access::{cut_to, is_aligned};
 use rv_model::Size;
 
 /// Puts the line of each element, upwards from an address; what a value holds above the size is left out.
-fn put_values<K: Sink>(out: &mut K, size: Size, address: u64, values: &[u64]) -> Result<(), Failure>
+pub fn put_values<K: Sink>(
+    out: &mut K,
+    size: Size,
+    address: u64,
+    values: &[u64],
+) -> Result<(), Failure>
     requires ends { address + length values.now * count_of size ≤ all_addresses }
     ensures put { OnOk result (K.contents out.new ≡ grown (text_of_all (element_lines size address (map (cut_to size) values.now))) (K.contents out.old)) }
     ensures cut { OnErr result
@@ -66,6 +74,7 @@ pub(crate) fn put_elements<D: Dmi, K: Sink>(
         (told (D.seen link.old)) (told (D.seen link.new)) (K.fault_count out.old)
         (K.fault_count out.new) (K.contents out.old) (K.contents out.new)) }
     ensures selection { OnOk result (OnChip SelectionStays (D.seen link.old) (D.seen link.new)) }
+    ensures rises { Within (load_rises count) (D.seen link.old) (D.seen link.new) }
     ensures keeps { Goes (λ _. Attached) (D.seen link.old) (D.seen link.new) result }
     ensures sink_later { K.fault_count out.old ≤ K.fault_count out.new }
 {
@@ -101,6 +110,8 @@ impl Session {
         ensures falls { IfErr result (Fails (Falls (before (command.Read size address count) (state_of self.now)) [])
             (D.seen link.old) (D.seen link.new)) }
         ensures knows { OnOk result (Knows (known_by self.now.path self.now.known) self.now.hart (D.seen link.new).far) }
+        ensures rises { Within 2 (D.seen link.old) (D.seen link.new) }
+        ensures few { IfOk result (λ shown. rises_of_shown shown ≤ load_rises count) }
         ensures keeps { Goes AttachedShown (D.seen link.old) (D.seen link.new) result }
         ensures block { IfOk result IsOfBlock }
     {

@@ -4,6 +4,7 @@ ghost use Rattle.probe_session.specs.Calls.{AskFell, GiveFell, Got, PendingFell,
 ghost use Rattle.probe_session.specs.Links.{AttachedHalted, Goes};
 ghost use Rattle.probe_session.specs.Answers.{PendingAs, ReadAs, WrittenAs};
 ghost use Rattle.probe_run.specs.Told.{told, Fails};
+ghost use Rattle.debug_model.specs.Rises.{Within};
 
 use crate::fault::Failure;
 use debug_model::Dmi;
@@ -22,6 +23,7 @@ pub(crate) fn reg_or_none<D: Dmi>(
     ensures got { IfOk result
         (ReadAs halted.now.number number (told (D.seen link.old)) (told (D.seen link.new))) }
     ensures fell { IfErr result (Fails (AskFell halted.now.number number) (D.seen link.old) (D.seen link.new)) }
+    ensures rises { Within 16 (D.seen link.old) (D.seen link.new) }
     ensures keeps { Goes (λ _. AttachedHalted halted.now.number) (D.seen link.old) (D.seen link.new) result }
 {
     match probe_access::held_reg(link, halted, number) {
@@ -38,6 +40,7 @@ pub(crate) fn pending_or_none<D: Dmi>(link: &mut D, halted: &Halted) -> Result<O
     requires serving { AttachedHalted halted.now.number (D.seen link.old) }
     ensures got { IfOk result (PendingAs halted.now.number (told (D.seen link.old)) (told (D.seen link.new))) }
     ensures fell { IfErr result (Fails (PendingFell halted.now.number) (D.seen link.old) (D.seen link.new)) }
+    ensures rises { Within 16 (D.seen link.old) (D.seen link.new) }
     ensures keeps { Goes (λ _. AttachedHalted halted.now.number) (D.seen link.old) (D.seen link.new) result }
 {
     match probe_access::reg(link, halted, register_number::MIP) {
@@ -50,12 +53,13 @@ pub(crate) fn pending_or_none<D: Dmi>(link: &mut D, halted: &Halted) -> Result<O
 }
 
 /// The value of a register that each halted hart itself holds: a chip that refuses to read it loses the session.
-pub(crate) fn reg<D: Dmi>(link: &mut D, halted: &Halted, number: u16) -> Result<u64, Failure>
+pub fn reg<D: Dmi>(link: &mut D, halted: &Halted, number: u16) -> Result<u64, Failure>
     requires other { is_mip number ≡ false }
     requires serving { AttachedHalted halted.now.number (D.seen link.old) }
     ensures got { IfOk result
         (λ value. Got halted.now.number number value (told (D.seen link.old)) (told (D.seen link.new))) }
     ensures fell { IfErr result (Fails (ReadFell halted.now.number number) (D.seen link.old) (D.seen link.new)) }
+    ensures rises { Within 16 (D.seen link.old) (D.seen link.new) }
     ensures keeps { Goes (λ _. AttachedHalted halted.now.number) (D.seen link.old) (D.seen link.new) result }
 {
     let value = probe_access::held_reg(link, halted, number)?;
@@ -63,7 +67,7 @@ pub(crate) fn reg<D: Dmi>(link: &mut D, halted: &Halted, number: u16) -> Result<
 }
 
 /// Writes a register of the halted hart. It answers whether the chip took it.
-pub(crate) fn set_reg_if_taken<D: Dmi>(
+pub fn set_reg_if_taken<D: Dmi>(
     link: &mut D,
     halted: &Halted,
     number: u16,
@@ -73,6 +77,7 @@ pub(crate) fn set_reg_if_taken<D: Dmi>(
     ensures gave { IfOk result
         (WrittenAs halted.now.number number value (told (D.seen link.old)) (told (D.seen link.new))) }
     ensures fell { IfErr result (Fails (GiveFell halted.now.number number value) (D.seen link.old) (D.seen link.new)) }
+    ensures rises { Within 8 (D.seen link.old) (D.seen link.new) }
     ensures keeps { Goes (λ _. AttachedHalted halted.now.number) (D.seen link.old) (D.seen link.new) result }
 {
     match probe_access::set_reg(link, halted, number, value) {

@@ -9,8 +9,11 @@ ghost use Rattle.probe_session.specs.Known.{Knows};
 ghost use Rattle.probe_session.specs.Links.{Attached};
 ghost use Rattle.probe_session.specs.Scripts.{EndedAs, FollowedAs, LeavesLink, ended_unopened, graded};
 ghost use Rattle.probe_session.specs.Transcribed.{TranscribedAs};
+ghost use Rattle.probe_session.specs.UnderWay.{EndedUpTo, FollowedUpTo};
 ghost use Rattle.debug_model.specs.Kept.{CanCall};
 ghost use Rattle.probe_run.specs.Told.{told};
+ghost use Rattle.debug_model.specs.Rises.{Within};
+ghost use Rattle.probe_session.specs.Budget.{commands_rises, script_rises};
 
 use crate::acted::Acted;
 use crate::ended::Ended;
@@ -21,7 +24,7 @@ use jt_base::Sink;
 use probe_run::ConnectFault;
 
 /// How a session ends at its script's end.
-fn finished(has_errors: bool) -> Ended
+pub fn finished(has_errors: bool) -> Ended
     ensures { result ≡ graded has_errors }
 {
     if has_errors {
@@ -32,7 +35,7 @@ fn finished(has_errors: bool) -> Ended
 }
 
 /// How a session ends whose chip was not opened.
-fn unopened(fault: ConnectFault) -> Ended
+pub fn unopened(fault: ConnectFault) -> Ended
     ensures { result ≡ ended_unopened fault }
 {
     match fault {
@@ -44,7 +47,7 @@ fn unopened(fault: ConnectFault) -> Ended
 }
 
 /// Does the commands in order, up to `end`, and puts their lines.
-fn run_commands<D: Dmi, K: Sink>(
+pub fn run_commands<D: Dmi, K: Sink>(
     begun: Session,
     link: &mut D,
     commands: &[Command],
@@ -56,6 +59,10 @@ fn run_commands<D: Dmi, K: Sink>(
     ensures followed { FollowedAs commands.now (state_of begun) (D.seen link.old).fault_count (D.seen link.new).fault_count
         (told (D.seen link.old)) (told (D.seen link.new)) (K.fault_count out.old)
         (K.fault_count out.new) (K.contents out.old) (K.contents out.new) result }
+    ensures up_to { FollowedUpTo commands.now (state_of begun) (D.seen link.old).fault_count (D.seen link.new).fault_count
+        (told (D.seen link.old)) (told (D.seen link.new)) (K.fault_count out.old)
+        (K.fault_count out.new) (K.contents out.old) (K.contents out.new) result }
+    ensures rises { Within (commands_rises commands.now) (D.seen link.old) (D.seen link.new) }
     ensures leaves { LeavesLink result (D.seen link.new) }
     ensures later { (D.seen link.old).fault_count ≤ (D.seen link.new).fault_count }
     ensures fixed { (D.seen link.new).fixed ≡ (D.seen link.old).fixed }
@@ -92,6 +99,10 @@ pub fn run_script<D: Dmi, K: Sink>(link: &mut D, script: &Script, out: &mut K) -
     ensures cause { EndCaused (D.seen link.old).fault_count (D.seen link.new).fault_count (D.seen link.new).far result }
     ensures sink_cause { SinkCaused (K.fault_count out.old) (K.fault_count out.new) result }
     ensures transcribed { TranscribedAs script.now (K.contents out.old) (K.contents out.new) (D.seen link.old).far (D.seen link.new).far result }
+    ensures up_to { EndedUpTo script.now (D.seen link.old).fault_count (D.seen link.new).fault_count (told (D.seen link.old))
+        (told (D.seen link.new)) (K.fault_count out.old) (K.fault_count out.new) (K.contents out.old)
+        (K.contents out.new) result }
+    ensures rises { Within (script_rises script.now) (D.seen link.old) (D.seen link.new) }
     ensures leaves { LeavesLink result (D.seen link.new) }
     ensures later { (D.seen link.old).fault_count ≤ (D.seen link.new).fault_count }
     ensures fixed { (D.seen link.new).fixed ≡ (D.seen link.old).fixed }

@@ -6,6 +6,7 @@ ghost use Rattle.probe_session.specs.Links.{AttachedHalted, Goes};
 ghost use Rattle.probe_trig.specs.Runs.{ArmsAny, FreesAny, ReadsAny};
 ghost use Rattle.probe_trig.specs.SlotRegisters.{CanArm};
 ghost use Rattle.probe_run.specs.Told.{told, Fails};
+ghost use Rattle.debug_model.specs.Rises.{Within};
 
 use crate::fault::Failure;
 use debug_model::{Dmi, SlotUse};
@@ -18,6 +19,7 @@ pub(crate) fn slots<D: Dmi>(link: &mut D, halted: &Halted) -> Result<SlotView, F
     ensures viewed { IfOk result
         (λ view. Viewed halted.now.number view (told (D.seen link.old)) (told (D.seen link.new))) }
     ensures fell { IfErr result (Fails (SlotsFell ReadsAny halted.now.number) (D.seen link.old) (D.seen link.new)) }
+    ensures rises { Within 184 (D.seen link.old) (D.seen link.new) }
     ensures keeps { Goes (λ _. AttachedHalted halted.now.number) (D.seen link.old) (D.seen link.new) result }
 {
     let seen = probe_trig::slots(link, halted)?;
@@ -35,6 +37,7 @@ pub(crate) fn arm<D: Dmi>(
     ensures taken { IfOk result
         (TakenAs halted.now.number what (told (D.seen link.old)) (told (D.seen link.new))) }
     ensures fell { IfErr result (Fails (SlotsFell (ArmsAny what) halted.now.number) (D.seen link.old) (D.seen link.new)) }
+    ensures rises { Within 152 (D.seen link.old) (D.seen link.new) }
     ensures keeps { Goes (λ _. AttachedHalted halted.now.number) (D.seen link.old) (D.seen link.new) result }
 {
     match probe_trig::arm(link, halted, what) {
@@ -53,6 +56,7 @@ pub(crate) fn disarm<D: Dmi>(link: &mut D, halted: &Halted, slot: u8) -> Result<
     ensures freed { IfOk result
         (FreedAs halted.now.number slot (told (D.seen link.old)) (told (D.seen link.new))) }
     ensures fell { IfErr result (Fails (SlotsFell (FreesAny slot) halted.now.number) (D.seen link.old) (D.seen link.new)) }
+    ensures rises { Within 56 (D.seen link.old) (D.seen link.new) }
     ensures keeps { Goes (λ _. AttachedHalted halted.now.number) (D.seen link.old) (D.seen link.new) result }
 {
     match probe_trig::disarm(link, halted, slot) {
@@ -70,6 +74,7 @@ pub(crate) fn step_over<D: Dmi>(link: &mut D, halted: Halted) -> Result<Halted, 
     ensures made { OnOk result (StepOverMade halted.number (told (D.seen link.old)) (told (D.seen link.new))) }
     ensures fell { IfErr result (Fails (StepOverFell halted.number) (D.seen link.old) (D.seen link.new)) }
     ensures hart { IfOk result (λ again. again.number ≡ halted.number) }
+    ensures rises { Within 369 (D.seen link.old) (D.seen link.new) }
     ensures keeps { Goes (λ _. AttachedHalted halted.number) (D.seen link.old) (D.seen link.new) result }
 {
     let again = probe_trig::step_over(link, halted)?;
@@ -82,6 +87,7 @@ pub(crate) fn step<D: Dmi>(link: &mut D, halted: Halted) -> Result<Halted, Failu
     ensures made { OnOk result (StepMade halted.number (told (D.seen link.old)) (told (D.seen link.new))) }
     ensures fell { IfErr result (Fails (StepFell halted.number) (D.seen link.old) (D.seen link.new)) }
     ensures hart { IfOk result (λ again. again.number ≡ halted.number) }
+    ensures rises { Within 49 (D.seen link.old) (D.seen link.new) }
     ensures keeps { Goes (λ _. AttachedHalted halted.number) (D.seen link.old) (D.seen link.new) result }
 {
     let again = probe_access::step(link, halted)?;
@@ -95,6 +101,7 @@ pub(crate) fn step_from<D: Dmi>(link: &mut D, halted: Halted, word: u64) -> Resu
     ensures made { OnOk result (StepFromMade halted.number word (told (D.seen link.old)) (told (D.seen link.new))) }
     ensures fell { IfErr result (Fails (StepFromFell halted.number word) (D.seen link.old) (D.seen link.new)) }
     ensures hart { IfOk result (λ again. again.number ≡ halted.number) }
+    ensures rises { Within 34 (D.seen link.old) (D.seen link.new) }
     ensures keeps { Goes (λ _. AttachedHalted halted.number) (D.seen link.old) (D.seen link.new) result }
 {
     let again = probe_access::step_from(link, halted, word)?;

@@ -9,6 +9,8 @@ ghost use Rattle.probe_session.specs.Links.{Attached, Goes, SelectionStays};
 ghost use Rattle.probe_session.specs.Reach.{AttachedBy, path_by, place_by, written};
 ghost use Rattle.probe_session.specs.Said.{said_by};
 ghost use Rattle.probe_run.specs.Told.{told, Fails, OnChip};
+ghost use Rattle.debug_model.specs.Rises.{Within};
+ghost use Rattle.probe_access.specs.BlockRises.{store_rises};
 
 use crate::fault::Failure;
 use crate::reach::{Reach, store_by};
@@ -33,6 +35,7 @@ pub(crate) fn written_line<D: Dmi>(
     ensures falls { IfErr result (Fails (Falls (λ next. place_by reach.now (written size address value count (path_by reach.now) next)) [])
         (D.seen link.old) (D.seen link.new)) }
     ensures selection { OnOk result (OnChip SelectionStays (D.seen link.old) (D.seen link.new)) }
+    ensures rises { Within (store_rises count) (D.seen link.old) (D.seen link.new) }
     ensures keeps { Goes (λ _. Attached) (D.seen link.old) (D.seen link.new) result }
 {
     if !is_aligned(size, address) {

@@ -20,3 +20,4 @@ pub mod OverRegisters
 pub mod StepCutLemmas
 pub mod Clear
 pub mod Alone
+pub mod Refusals

@@ -1,8 +1,10 @@
 -- Facts behind a call on slots that has no result, by its fault.
 -- It is this project's own.
-use Rattle.std.specs.Prelude.{Option, None}
+use Rattle.std.specs.Prelude.{◌≢◌, ℕ, Option, None}
+use Rattle.rv_model.specs.TriggerWords.{tinfo_number}
 use Rattle.debug_model.specs.declared.dmi.DmiFault.{DmiFault}
 use Rattle.probe_access.specs.declared.fault.AccessFault.{AccessFault}
+use Rattle.probe_access.specs.declared.fault.AccessFault.TheVariants as access_fault
 use Rattle.probe_access.specs.Faults.{access_why}
 use Rattle.probe_trig.specs.declared.fault.TrigFault.{TrigFault}
 use Rattle.probe_trig.specs.declared.fault.TrigFault.TheVariants as fault
@@ -25,3 +27,16 @@ abbrev pub trig_why : TrigFault → Option DmiFault
 trig_why (fault.Access e) = access_why e
 trig_why fault.NoFreeSlot = None
 trig_why fault.NotInUse = None
+
+-- a register that was refused is such a one
+abbrev pub Refuses : (ℕ → Type 0) → AccessFault → Type 0
+Refuses P (access_fault.Dmi why) = Unit {0}
+Refuses P (access_fault.Memory at) = Unit {0}
+Refuses P (access_fault.Register number) = P number
+Refuses P access_fault.StillBusy = Unit {0}
+Refuses P (access_fault.Run why) = Unit {0}
+Refuses P (access_fault.Odd word) = Unit {0}
+
+-- none is refused, or one that each hart with slots has: tinfo may be missing
+abbrev pub RefusesNoTinfo : AccessFault → Type 0
+RefusesNoTinfo = Refuses (λ number. number ≢ tinfo_number)

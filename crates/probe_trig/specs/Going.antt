@@ -1,6 +1,7 @@
 -- A hart is let go: at once where no slot has a hit, and else behind a step over those that have one.
 -- RISC-V Debug Specification 1.0, "Run Control". That a hart is stepped over its hits first is this project's own.
 use Rattle.std.specs.Prelude.{◌≡◌, ℕ, true, false, Option, None}
+use Rattle.rv_model.specs.declared.version.Version.{Version}
 use Rattle.debug_model.specs.declared.point.Point.TheVariants.{ResumeReq}
 use Rattle.debug_model.specs.Scan.{WhereTold}
 use Rattle.debug_model.specs.Told.{Far}
@@ -29,6 +30,11 @@ use Rattle.probe_trig.specs.Transfers.{FailedIn}
 abbrev pub IsOfHart : ℕ → Gone → Type 0
 IsOfHart h (gone.Free r) = r.number ≡ h
 IsOfHart h (gone.Stopped x) = x.number ≡ h
+
+-- and of a chip of this release
+abbrev pub GoneAs : Version → Gone → Type 0
+GoneAs v (gone.Free r) = r.version ≡ v
+GoneAs v (gone.Stopped x) = x.version ≡ v
 
 abbrev pub IfStopped : Type 0 → Gone → Type 0
 IfStopped P (gone.Free r) = Unit {0}

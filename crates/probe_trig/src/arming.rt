@@ -1,4 +1,5 @@
 ghost use Rattle.std.specs.Prelude.{◌≡◌, ◌<◌, true, false, Some, None, IfOk, IfErr, OnOk};
+ghost use Rattle.debug_model.specs.Rises.{Within};
 ghost use Rattle.debug_model.specs.Kept.{CanCall, Keeps, Stands};
 ghost use Rattle.probe_run.specs.Told.{told, OnChip, Fails, Serving};
 ghost use Rattle.probe_access.specs.Faults.{access_why};
@@ -6,7 +7,7 @@ ghost use Rattle.probe_access.specs.Cuts.{IfCut, LeftAside, Leaves};
 ghost use Rattle.probe_access.specs.Scratches.{ScratchLeft};
 ghost use Rattle.abstract_debugger.specs.Slots.{address_trigger};
 ghost use Rattle.rv_model.specs.TriggerWords.{CountFits};
-ghost use Rattle.probe_trig.specs.Faults.{ByFault, IfAccess, UnlessAccess, trig_why};
+ghost use Rattle.probe_trig.specs.Faults.{ByFault, IfAccess, RefusesNoTinfo, UnlessAccess, trig_why};
 ghost use Rattle.probe_trig.specs.Runs.{Arms, ArmsAny, ArmsOn, Seeks, SeeksAny, address_set, armed_by, arming_version};
 ghost use Rattle.probe_trig.specs.Single.{AddressSet, Armed, ArmedBy};
 ghost use Rattle.probe_trig.specs.Slots.{ArmedAt, AtHarts, DebugAlone, FullAt};
@@ -88,6 +89,8 @@ fn set_address<D: Dmi>(link: &mut D, halted: &Halted, what: SlotUse) -> Result<(
     ensures made { OnOk result (Made halted.now.number (told (D.seen link.old)) (address_set (address_named what)) (told (D.seen link.new))) }
     ensures failed { IfErr result (Fails (FailedIn (AddressSet what) halted.now.number) (D.seen link.old) (D.seen link.new)) }
     ensures serving { OnOk result (Serving halted.now.number (D.seen link.new).far) }
+    ensures refuses { IfErr result RefusesNoTinfo }
+    ensures rises { Within 8 (D.seen link.old) (D.seen link.new) }
     ensures keeps { Keeps access_why (D.seen link.old) (D.seen link.new) result }
 {
     match address_of(what) {
@@ -112,6 +115,8 @@ fn arm_by<D: Dmi>(
     ensures made { OnOk result (Made halted.now.number (told (D.seen link.old)) (armed_by version what) (told (D.seen link.new))) }
     ensures failed { IfErr result (Fails (FailedIn (ArmedBy version what) halted.now.number) (D.seen link.old) (D.seen link.new)) }
     ensures serving { OnOk result (Serving halted.now.number (D.seen link.new).far) }
+    ensures refuses { IfErr result RefusesNoTinfo }
+    ensures rises { Within 16 (D.seen link.old) (D.seen link.new) }
     ensures keeps { Keeps access_why (D.seen link.old) (D.seen link.new) result }
 {
     set_address(link, halted, what)?;
@@ -128,6 +133,8 @@ fn arm_selected<D: Dmi>(link: &mut D, halted: &Halted, what: SlotUse) -> Result<
     ensures did { OnOk result (Did (Armed halted.now.version what) halted.now.number (told (D.seen link.old)) (told (D.seen link.new))) }
     ensures failed { IfErr result (Fails (FailedIn (Armed halted.now.version what) halted.now.number) (D.seen link.old) (D.seen link.new)) }
     ensures serving { OnOk result (Serving halted.now.number (D.seen link.new).far) }
+    ensures refuses { IfErr result RefusesNoTinfo }
+    ensures rises { Within 32 (D.seen link.old) (D.seen link.new) }
     ensures keeps { Keeps access_why (D.seen link.old) (D.seen link.new) result }
 {
     let tinfo = reg_or_none(link, halted, TriggerRegister::Tinfo)?;
@@ -142,6 +149,8 @@ fn seek_free<D: Dmi>(link: &mut D, halted: &Halted) -> Result<Option<u8>, Access
     ensures did { IfOk result (λ found. Did (Seeks found) halted.now.number (told (D.seen link.old)) (told (D.seen link.new))) }
     ensures failed { IfErr result (Fails (FailedIn SeeksAny halted.now.number) (D.seen link.old) (D.seen link.new)) }
     ensures serving { OnOk result (Serving halted.now.number (D.seen link.new).far) }
+    ensures refuses { IfErr result RefusesNoTinfo }
+    ensures rises { Within 96 (D.seen link.old) (D.seen link.new) }
     ensures keeps { Keeps access_why (D.seen link.old) (D.seen link.new) result }
 {
     'seeking: for slot in 0..SLOTS {
@@ -165,6 +174,8 @@ fn arm_lowest<D: Dmi>(
     ensures did { IfOk result (λ found. Did (ArmsOn halted.now.version what found) halted.now.number (told (D.seen link.old)) (told (D.seen link.new))) }
     ensures failed { IfErr result (Fails (FailedIn (ArmsAny what) halted.now.number) (D.seen link.old) (D.seen link.new)) }
     ensures serving { OnOk result (Serving halted.now.number (D.seen link.new).far) }
+    ensures refuses { IfErr result RefusesNoTinfo }
+    ensures rises { Within 152 (D.seen link.old) (D.seen link.new) }
     ensures keeps { Keeps access_why (D.seen link.old) (D.seen link.new) result }
 {
     let kept = reg(link, halted, TriggerRegister::Tselect)?;
@@ -202,6 +213,8 @@ pub fn arm<D: Dmi>(link: &mut D, halted: &Halted, what: SlotUse) -> Result<u8, T
     ensures cut { IfErr result (IfAccess (IfCut (Leaves (LeftAside DebugAlone halted.now.number) (D.seen link.old).far (D.seen link.new).far))) }
     ensures serving_still { IfErr result (UnlessAccess (Serving halted.now.number (D.seen link.new).far)) }
     ensures serving { OnOk result (Serving halted.now.number (D.seen link.new).far) }
+    ensures refuses { IfErr result (IfAccess RefusesNoTinfo) }
+    ensures rises { Within 152 (D.seen link.old) (D.seen link.new) }
     ensures keeps { Keeps trig_why (D.seen link.old) (D.seen link.new) result }
 {
     match arm_lowest(link, halted, what)? {

@@ -1,4 +1,5 @@
 ghost use Rattle.std.specs.Prelude.{◌<◌, true, false, IfOk, IfErr, OnOk};
+ghost use Rattle.debug_model.specs.Rises.{Within};
 ghost use Rattle.debug_model.specs.Kept.{CanCall, Keeps};
 ghost use Rattle.probe_run.specs.Told.{told, OnChip, Fails, Serving};
 ghost use Rattle.probe_access.specs.Faults.{access_why};
@@ -24,6 +25,7 @@ fn free<D: Dmi>(link: &mut D, halted: &Halted, slot: u8) -> Result<bool, AccessF
     ensures did { IfOk result (λ was_free. Did (Frees slot was_free) halted.now.number (told (D.seen link.old)) (told (D.seen link.new))) }
     ensures failed { IfErr result (Fails (FailedIn (FreesAny slot) halted.now.number) (D.seen link.old) (D.seen link.new)) }
     ensures serving { OnOk result (Serving halted.now.number (D.seen link.new).far) }
+    ensures rises { Within 56 (D.seen link.old) (D.seen link.new) }
     ensures keeps { Keeps access_why (D.seen link.old) (D.seen link.new) result }
 {
     let kept = reg(link, halted, TriggerRegister::Tselect)?;
@@ -53,6 +55,7 @@ pub fn disarm<D: Dmi>(link: &mut D, halted: &Halted, slot: u8) -> Result<(), Tri
     ensures cut { IfErr result (IfAccess (IfCut (Leaves (LeftAside DebugAlone halted.now.number) (D.seen link.old).far (D.seen link.new).far))) }
     ensures serving_still { IfErr result (UnlessAccess (Serving halted.now.number (D.seen link.new).far)) }
     ensures serving { OnOk result (Serving halted.now.number (D.seen link.new).far) }
+    ensures rises { Within 56 (D.seen link.old) (D.seen link.new) }
     ensures keeps { Keeps trig_why (D.seen link.old) (D.seen link.new) result }
 {
     if free(link, halted, slot)? {

@@ -1,4 +1,5 @@
 ghost use Rattle.std.specs.Prelude.{IfErr, OnOk};
+ghost use Rattle.debug_model.specs.Rises.{Within};
 ghost use Rattle.debug_model.specs.Kept.{CanCall, Keeps};
 ghost use Rattle.probe_run.specs.Told.{told, OnChip, Serving, Fails};
 ghost use Rattle.probe_access.specs.Cuts.{IfCut, LeftAside, Leaves};
@@ -25,6 +26,7 @@ pub fn forget_hits<D: Dmi>(link: &mut D, halted: &Halted) -> Result<(), TrigFaul
     ensures failed { IfErr result (ByFault (Fails (FailedIn (ChangesAny Forget) halted.now.number) (D.seen link.old) (D.seen link.new)) ⊥ ⊥) }
     ensures cut { IfErr result (IfAccess (IfCut (Leaves (LeftAside DebugAlone halted.now.number) (D.seen link.old).far (D.seen link.new).far))) }
     ensures serving { OnOk result (Serving halted.now.number (D.seen link.new).far) }
+    ensures rises { Within 152 (D.seen link.old) (D.seen link.new) }
     ensures keeps { Keeps trig_why (D.seen link.old) (D.seen link.new) result }
 {
     let _some = change_hits(link, halted, Change::Forget)?;

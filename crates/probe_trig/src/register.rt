@@ -1,7 +1,9 @@
 ghost use Rattle.std.specs.Prelude.{◌≡◌, ◌∷◌, [], IfOk, IfErr, OnOk};
+ghost use Rattle.debug_model.specs.Rises.{Within};
 ghost use Rattle.debug_model.specs.Kept.{CanCall, Keeps};
 ghost use Rattle.probe_run.specs.Told.{told, Fails, Serving};
 ghost use Rattle.probe_access.specs.Faults.{access_why};
+ghost use Rattle.probe_trig.specs.Faults.{Refuses, RefusesNoTinfo};
 ghost use Rattle.probe_trig.specs.Runs.{word_read};
 ghost use Rattle.probe_trig.specs.Transfers.{FailedIn, Made, asked, number_of};
 ghost use Rattle.probe_trig.specs.Transfers.Transfer.{Got, Set};
@@ -54,6 +56,8 @@ pub fn reg<D: Dmi>(
     ensures made { IfOk result (λ value. Made halted.now.number (told (D.seen link.old)) (Got register value ∷ []) (told (D.seen link.new))) }
     ensures failed { IfErr result (Fails (FailedIn (OneGot register) halted.now.number) (D.seen link.old) (D.seen link.new)) }
     ensures serving { OnOk result (Serving halted.now.number (D.seen link.new).far) }
+    ensures refuses { IfErr result (Refuses (λ number. number ≡ number_of register)) }
+    ensures rises { Within 16 (D.seen link.old) (D.seen link.new) }
     ensures keeps { Keeps access_why (D.seen link.old) (D.seen link.new) result }
 {
     let value = probe_access::held_reg(link, halted, register.number())?;
@@ -71,6 +75,8 @@ pub fn reg_or_none<D: Dmi>(
     ensures made { IfOk result (λ value. Made halted.now.number (told (D.seen link.old)) (asked register value) (told (D.seen link.new))) }
     ensures failed { IfErr result (Fails (FailedIn (OneAsked register) halted.now.number) (D.seen link.old) (D.seen link.new)) }
     ensures serving { OnOk result (Serving halted.now.number (D.seen link.new).far) }
+    ensures refuses { IfErr result (Refuses (λ number. ⊥)) }
+    ensures rises { Within 16 (D.seen link.old) (D.seen link.new) }
     ensures keeps { Keeps access_why (D.seen link.old) (D.seen link.new) result }
 {
     match probe_access::held_reg(link, halted, register.number()) {
@@ -94,6 +100,8 @@ pub fn set_reg<D: Dmi>(
     ensures made { OnOk result (Made halted.now.number (told (D.seen link.old)) (Set register value ∷ []) (told (D.seen link.new))) }
     ensures failed { IfErr result (Fails (FailedIn (OneSet register value) halted.now.number) (D.seen link.old) (D.seen link.new)) }
     ensures serving { OnOk result (Serving halted.now.number (D.seen link.new).far) }
+    ensures refuses { IfErr result (Refuses (λ number. number ≡ number_of register)) }
+    ensures rises { Within 8 (D.seen link.old) (D.seen link.new) }
     ensures keeps { Keeps access_why (D.seen link.old) (D.seen link.new) result }
 {
     probe_access::set_reg(link, halted, register.number(), value)?;
@@ -107,6 +115,8 @@ pub fn read_word<D: Dmi>(link: &mut D, halted: &Halted, slot: u8) -> Result<u64,
     ensures made { IfOk result (λ tdata1. Made halted.now.number (told (D.seen link.old)) (word_read slot tdata1) (told (D.seen link.new))) }
     ensures failed { IfErr result (Fails (FailedIn (WordRead slot) halted.now.number) (D.seen link.old) (D.seen link.new)) }
     ensures serving { OnOk result (Serving halted.now.number (D.seen link.new).far) }
+    ensures refuses { IfErr result RefusesNoTinfo }
+    ensures rises { Within 24 (D.seen link.old) (D.seen link.new) }
     ensures keeps { Keeps access_why (D.seen link.old) (D.seen link.new) result }
 {
     set_reg(link, halted, TriggerRegister::Tselect, u64::from(slot))?;

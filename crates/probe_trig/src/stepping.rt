@@ -1,4 +1,5 @@
 ghost use Rattle.std.specs.Prelude.{◌≡◌, IfOk, IfErr, OnOk};
+ghost use Rattle.debug_model.specs.Rises.{Within};
 ghost use Rattle.debug_model.specs.Kept.{CanCall, Keeps};
 ghost use Rattle.probe_run.specs.Told.{told, OnChip, Fails, Serving};
 ghost use Rattle.probe_access.specs.Faults.{access_why};
@@ -8,7 +9,7 @@ ghost use Rattle.probe_access.specs.SingleSteps.{StepLeft};
 ghost use Rattle.probe_run.specs.Happens.{Exists};
 ghost use Rattle.probe_trig.specs.declared.change.Change.TheVariants.{Hold};
 ghost use Rattle.probe_trig.specs.Faults.{ByFault, IfAccess, trig_why};
-ghost use Rattle.probe_trig.specs.Going.{GoFailed, GoLeft, GoesAt, IfStopped, IsOfHart, WentBy};
+ghost use Rattle.probe_trig.specs.Going.{GoFailed, GoLeft, GoesAt, GoneAs, IfStopped, IsOfHart, WentBy};
 ghost use Rattle.probe_trig.specs.Slots.{AtHarts};
 ghost use Rattle.probe_trig.specs.StepCuts.{BackCut, GoCut, LeavesAt, OverCut};
 ghost use Rattle.probe_trig.specs.Stepping.{BackAt, BackFailed, Ends, EndsAny, OverAt, OverFailed, OverLeft, SteppedBack, SteppedOverAny, ending, shows_step};
@@ -58,6 +59,7 @@ fn put_back<D: Dmi>(link: &mut D, halted: &Halted) -> Result<bool, AccessFault>
     ensures did { IfOk result (λ executed. Did (Ends executed) halted.now.number (told (D.seen link.old)) (told (D.seen link.new))) }
     ensures failed { IfErr result (Fails (FailedIn EndsAny halted.now.number) (D.seen link.old) (D.seen link.new)) }
     ensures serving { OnOk result (Serving halted.now.number (D.seen link.new).far) }
+    ensures rises { Within 168 (D.seen link.old) (D.seen link.new) }
     ensures keeps { Keeps access_why (D.seen link.old) (D.seen link.new) result }
 {
     let word = reg(link, halted, TriggerRegister::Dcsr)?;
@@ -73,10 +75,12 @@ fn step_back<D: Dmi>(link: &mut D, halted: Halted) -> Result<Stepped, AccessFaul
     ensures back_at { IfOk result (λ stepped. OnChip (AtHarts (BackAt stepped.executed halted.number)) (D.seen link.old) (D.seen link.new)) }
     ensures stepped { IfOk result (λ stepped. SteppedBack stepped.executed halted.number (told (D.seen link.old)) (told (D.seen link.new))) }
     ensures hart { IfOk result (λ stepped. stepped.halted.number ≡ halted.number) }
+    ensures version { IfOk result (λ stepped. stepped.halted.version ≡ halted.version) }
     ensures left { IfErr result (StepLeft halted.number (D.seen link.old).far (D.seen link.new).far) }
     ensures failed { IfErr result (Fails (BackFailed halted.number) (D.seen link.old) (D.seen link.new)) }
     ensures cut { IfErr result (IfCut (LeavesAt (BackCut halted.number) (D.seen link.old).far (D.seen link.new).far)) }
     ensures serving { OnOk result (Serving halted.number (D.seen link.new).far) }
+    ensures rises { Within 217 (D.seen link.old) (D.seen link.new) }
     ensures keeps { Keeps access_why (D.seen link.old) (D.seen link.new) result }
 {
     let again = step(link, halted)?;
@@ -95,10 +99,12 @@ pub fn step_over<D: Dmi>(link: &mut D, halted: Halted) -> Result<Halted, TrigFau
     ensures over_at { OnOk result (OnChip (AtHarts (OverAt halted.number)) (D.seen link.old) (D.seen link.new)) }
     ensures did { OnOk result (SteppedOverAny halted.number (told (D.seen link.old)) (told (D.seen link.new))) }
     ensures hart { IfOk result (λ again. again.number ≡ halted.number) }
+    ensures version { IfOk result (λ again. again.version ≡ halted.version) }
     ensures left { IfErr result (ByFault (OverLeft halted.number (D.seen link.old).far (D.seen link.new).far) ⊥ ⊥) }
     ensures failed { IfErr result (ByFault (Fails (OverFailed halted.number) (D.seen link.old) (D.seen link.new)) ⊥ ⊥) }
     ensures cut { IfErr result (IfAccess (IfCut (LeavesAt (OverCut halted.number) (D.seen link.old).far (D.seen link.new).far))) }
     ensures serving { OnOk result (Serving halted.number (D.seen link.new).far) }
+    ensures rises { Within 369 (D.seen link.old) (D.seen link.new) }
     ensures keeps { Keeps trig_why (D.seen link.old) (D.seen link.new) result }
 {
     let _some = change_hits(link, &halted, Change::Hold)?;
@@ -114,6 +120,7 @@ pub fn let_go<D: Dmi>(link: &mut D, halted: Halted) -> Result<Gone, TrigFault>
     ensures goes_at { IfOk result (λ gone. OnChip (AtHarts (GoesAt halted.number gone)) (D.seen link.old) (D.seen link.new)) }
     ensures went { IfOk result (λ gone. WentBy halted.number gone (told (D.seen link.old)) (told (D.seen link.new))) }
     ensures hart { IfOk result (IsOfHart halted.number) }
+    ensures version { IfOk result (GoneAs halted.version) }
     ensures left { IfErr result (ByFault (GoLeft halted.number (D.seen link.old).far (D.seen link.new).far) ⊥ ⊥) }
     ensures failed { IfErr result (ByFault (Fails (GoFailed halted.number) (D.seen link.old) (D.seen link.new)) ⊥ ⊥) }
     ensures cut { IfErr result (IfAccess (IfCut (LeavesAt (GoCut halted.number) (D.seen link.old).far (D.seen link.new).far))) }
@@ -121,6 +128,7 @@ pub fn let_go<D: Dmi>(link: &mut D, halted: Halted) -> Result<Gone, TrigFault>
     ensures ready { OnOk result (IsReady (D.seen link.new).far) }
     ensures selects { OnOk result (Selects halted.number (D.seen link.new).far) }
     ensures halted { IfOk result (IfStopped (IsHalted halted.number (D.seen link.new).far)) }
+    ensures rises { Within 371 (D.seen link.old) (D.seen link.new) }
     ensures keeps { Keeps trig_why (D.seen link.old) (D.seen link.new) result }
 {
     let some = change_hits(link, &halted, Change::Hold)?;

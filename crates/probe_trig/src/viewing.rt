@@ -1,4 +1,5 @@
 ghost use Rattle.std.specs.Prelude.{◌≡◌, ◌<◌, ◌∷◌, [], IfOk, IfErr, OnOk, map};
+ghost use Rattle.debug_model.specs.Rises.{Within};
 ghost use Rattle.debug_model.specs.Kept.{CanCall, Keeps};
 ghost use Rattle.probe_run.specs.Told.{told, OnChip, Fails, Serving};
 ghost use Rattle.probe_access.specs.Faults.{access_why};
@@ -28,6 +29,7 @@ fn read_slot<D: Dmi>(link: &mut D, halted: &Halted, slot: u8) -> Result<SlotWord
     ensures made { IfOk result (λ words. Made halted.now.number (told (D.seen link.old)) (slot_read slot words) (told (D.seen link.new))) }
     ensures failed { IfErr result (Fails (FailedIn (SlotRead slot) halted.now.number) (D.seen link.old) (D.seen link.new)) }
     ensures serving { OnOk result (Serving halted.now.number (D.seen link.new).far) }
+    ensures rises { Within 40 (D.seen link.old) (D.seen link.new) }
     ensures keeps { Keeps access_why (D.seen link.old) (D.seen link.new) result }
 {
     let tdata1 = read_word(link, halted, slot)?;
@@ -42,6 +44,7 @@ fn read_slots<D: Dmi>(link: &mut D, halted: &Halted) -> Result<[SlotWords; 4], A
     ensures did { IfOk result (λ words. ReadAll words halted.now.number (told (D.seen link.old)) (told (D.seen link.new))) }
     ensures failed { IfErr result (Fails (FailedIn ReadsAny halted.now.number) (D.seen link.old) (D.seen link.new)) }
     ensures serving { OnOk result (Serving halted.now.number (D.seen link.new).far) }
+    ensures rises { Within 184 (D.seen link.old) (D.seen link.new) }
     ensures keeps { Keeps access_why (D.seen link.old) (D.seen link.new) result }
 {
     let kept = reg(link, halted, TriggerRegister::Tselect)?;
@@ -95,6 +98,7 @@ pub fn slots<D: Dmi>(link: &mut D, halted: &Halted) -> Result<SlotView, TrigFaul
     ensures failed { IfErr result (ByFault (Fails (FailedIn ReadsAny halted.now.number) (D.seen link.old) (D.seen link.new)) ⊥ ⊥) }
     ensures cut { IfErr result (IfAccess (IfCut (Leaves (LeftAside DebugAlone halted.now.number) (D.seen link.old).far (D.seen link.new).far))) }
     ensures serving { OnOk result (Serving halted.now.number (D.seen link.new).far) }
+    ensures rises { Within 184 (D.seen link.old) (D.seen link.new) }
     ensures keeps { Keeps trig_why (D.seen link.old) (D.seen link.new) result }
 {
     let words = read_slots(link, halted)?;

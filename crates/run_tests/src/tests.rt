@@ -4,7 +4,7 @@ ghost use Rattle.std.specs.Prelude.{◌≡◌, ◌<◌, None, IfOk};
 
 mod accesses;
 mod chained;
-mod ended;
+mod elf;
 mod generated;
 mod loopback;
 mod probe;
@@ -12,6 +12,7 @@ mod recorded;
 mod refused;
 mod served;
 mod sessions;
+mod soft;
 
 use chip_core::Bench;
 use jt_base::{DiskFiles, Files, MemoryFile, MemoryFiles, MemorySink, Sink};

@@ -81,25 +81,42 @@ stored_point a v before behind s t taken board journal = record {
 
 -- ---- a word uncovered, and covered
 
+abbrev LiftedDeals : Machine → ℕ → Way → Origin → (a : ℕ) → (next : ℕ → Plan) → Table → List Line → (old new : Target) → (original : ℕ) → Type 0
+LiftedDeals m sel way o a next t lines old new original =
+    (at : PointedWith Access (WriteMem a patch_bytes original) old new) → is_inside (after_turns at.before old.board).memory a B4 ≡ true
+    → Deals m sel way o (lower (next original) (patched_table false a original t)) lines new
+
 lifted_deals : (m : Machine) (sel : ℕ) (way : Way) (o : Origin) (a original : ℕ) (next : ℕ → Plan) (t : Table) (lines : List Line) (old new : Target)
     → is_listed t.covered a ≡ true → original_at t a ≡ original → Deals m sel way o (lower (lifting a next) t) lines old
-    → PointedWith Access (WriteMem a patch_bytes original) old new
-    → Deals m sel way o (lower (next original) (patched_table false a original t)) lines new
-lifted_deals m sel way o a original next t lines old new listed is d at =
-    deals_at_plan m sel way o _ _ lines new (ap (λ v. lower (next v) (patched_table false a v t)) is)
-    (uncovering_stands m sel way o a next t lines old new listed d (subst (λ v. PointedWith Access (WriteMem a patch_bytes v) old new) (sym is) at))
+    → LiftedDeals m sel way o a next t lines old new original
+lifted_deals m sel way o a original next t lines old new listed is d =
+    subst (LiftedDeals m sel way o a next t lines old new) is (λ at held. uncovering_stands m sel way o a next t lines old new listed d at held)
+
+-- a store that was taken lies inside
+taken_inside : (k : Memory) (a : ℕ) → store_answer k a B4 ≡ Ok tt → is_inside k a B4 ≡ true
+unfolding store_answer
+taken_inside k a is = by (is_aligned a B4) (is_inside k a B4) is
+  where
+    by : (x y : Bool) → answer x y ≡ Ok tt → y ≡ true
+    by true true e = refl
+    by true false e = cc
+    by false y e = cc
 
 pub lift_leads : (a original : ℕ) (old new : Option Far) → WhereTold (StoredAt B4 a original) old new → LiftLeads a original old new
+unfolding stored_point
 lift_leads a original old new stored next t listed is =
     told_leads (StoredAt B4 a original) _ _ old new (λ f m sel way o lines d s. at_told m sel way o _ lines s.far new s.is
     (lifted_deals m sel way o a original next t lines (target_of (site_of f)) (target_of (site_of s.far)) listed is d
-    (stored_point a original s.before s.behind (site_of f) (site_of s.far) s.taken s.access.board s.access.journal))) stored
+    (stored_point a original s.before s.behind (site_of f) (site_of s.far) s.taken s.access.board s.access.journal)
+    (taken_inside (after_turns s.before (site_of f).board).memory a s.taken))) stored
 
 pub bus_lift_leads : (a original : ℕ) (old new : Option Far) → WhereTold (BusStoredAt B4 a original) old new → LiftLeads a original old new
+unfolding stored_point
 bus_lift_leads a original old new stored next t listed is =
     told_leads (BusStoredAt B4 a original) _ _ old new (λ f m sel way o lines d s. at_told m sel way o _ lines s.far new s.is
     (lifted_deals m sel way o a original next t lines (target_of (site_of f)) (target_of (site_of s.far)) listed is d
-    (stored_point a original s.before s.behind (site_of f) (site_of s.far) s.taken s.access.board s.access.journal))) stored
+    (stored_point a original s.before s.behind (site_of f) (site_of s.far) s.taken s.access.board s.access.journal)
+    (taken_inside (after_turns s.before (site_of f).board).memory a s.taken))) stored
 
 pub cover_leads : (a : ℕ) (old new : Option Far) → WhereTold (StoredAt B4 a ebreak_word) old new → CoverLeads a old new
 cover_leads a old new stored original next t =
@@ -109,7 +126,7 @@ cover_leads a old new stored original next t =
 
 -- ---- a breakpoint set
 
-byte_apart : (cs : List ℕ) (a n q : ℕ) → meets_some cs a n ≡ false → a ≤ q → q < a + n → meets_some cs q 1 ≡ false
+pub byte_apart : (cs : List ℕ) (a n q : ℕ) → meets_some cs a n ≡ false → a ≤ q → q < a + n → meets_some cs q 1 ≡ false
 byte_apart [] a n q none from less = refl
 byte_apart (c ∷ cs) a n q none from less =
     let parts = or_parts (meets c a n) (meets_some cs a n) none in

@@ -2,7 +2,9 @@ pub mod WordBytes
 pub mod Covering
 pub mod Lists
 pub mod Views
+pub mod TableBytes
 pub mod PlantSteps
 pub mod LeadLemmas
 pub mod PrepareSteps
 pub mod RefusedLemmas
+pub mod HartCounts

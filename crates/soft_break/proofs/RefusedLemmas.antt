@@ -1,8 +1,8 @@
 -- A breakpoint that was to be set outside memory, at a told chip: the word was not read. Behind a read no store of the word is refused.
-use Rattle.std.proofs.Common.{◌≡◌, ◌∙◌, ◌+◌, ◌++◌, ℕ, zero, suc, Bool, true, false, List, [], ◌∷◌, Option, Some, None, Result, Ok, Err, is_some, option_map}
+use Rattle.std.proofs.Common.{◌≡◌, ◌∙◌, ◌+◌, ℕ, zero, suc, Bool, true, false, List, Option, Some, None, Result, Ok, Err, is_some}
 use Rattle.std.proofs.Common.{refl, sym, ap, subst, if◌then◌else◌}
 use Rattle.std.proofs.lemmas.Bool.{false≢true}
-use Rattle.std.proofs.lemmas.Option.{none-some, same_Some}
+use Rattle.std.proofs.lemmas.Option.{same_Some}
 use Rattle.std.specs.FinMap.{get}
 use Rattle.std.specs.Prelude.{⊤}
 use Rattle.rv_model.specs.declared.mem_fault.MemFault.{MemFault}
@@ -28,10 +28,10 @@ use Rattle.abstract_debugger.proofs.StandsLemmas.{replay-stop, spin-board}
 use Rattle.probe_run.specs.Happens.{target_of}
 use Rattle.probe_access.specs.declared.fault.AccessFault.{AccessFault}
 use Rattle.probe_access.specs.declared.fault.AccessFault.TheVariants as access_fault
-use Rattle.probe_access.specs.Accesses.{AccessLeft, BusLoadRefused, BusLoadedAt, BusStoreRefused, IfMemory}
+use Rattle.probe_access.specs.Accesses.{AccessLeft, BusLoadedAt, BusStoreRefused, IfMemory}
 use Rattle.soft_laws.specs.CallLaws.{Stays}
 use Rattle.soft_laws.specs.Lowered.{Table, hidden_memory, lower}
-use Rattle.soft_laws.specs.SoftBreaks.{AreSoftAddresses, is_listed, meets_some}
+use Rattle.soft_laws.specs.SoftBreaks.{meets_some}
 use Rattle.soft_laws.specs.SoftDebugger.{covering, planting}
 use Rattle.soft_laws.proofs.PatchedLemmas.{uncovered-apart}
 use Rattle.soft_laws.proofs.ReadLemmas.{bytes_stay}

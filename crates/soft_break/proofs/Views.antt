@@ -21,7 +21,8 @@ use Rattle.soft_laws.specs.Shown.{shown_byte, shown_value}
 use Rattle.soft_laws.specs.SoftBreaks.{ebreak_word, is_listed, meets, meets_some, without}
 use Rattle.soft_laws.specs.SoftDebugger.{put_in}
 use Rattle.soft_laws.proofs.ByteLemmas.{byte_or, get-with_value, get_insert}
-use Rattle.soft_break.specs.Patches.{ArePatches, IsReplaced, IsSameTable, Patches, laid, original_of, put_word, table_of, with_patch, without_patch}
+use Rattle.soft_break.specs.Patches.{ArePatches, IsReplaced, IsSameTable, KeepsWords, Patches, laid, original_of, put_word, table_of, with_patch, without_patch}
+use Rattle.soft_break.specs.Patches.{word_in}
 use Rattle.soft_break.proofs.Covering.{Found, found, found_high, laid_set, no_place, none_meets, none_merges, place_found}
 use Rattle.soft_break.proofs.Lists.{inserted, inserted_word, is_listed-at, not_listed, patches_with, patches_without, place_at, place_for}
 use Rattle.soft_break.proofs.Lists.{removed, removed_word, word_at_place, word_put}
@@ -43,6 +44,22 @@ pub place_inside : (cs : List ℕ) (a i : ℕ) (o : Option ℕ) → o ≡ positi
 place_inside cs a i o e f less = omega (arith, place_found (λ c. a == c) cs i (sym e ∙ f), less)
 
 -- ---- one more, and one less
+
+-- a word changed to one of 32 bits
+word_set : (a : ℕ) (cs ws : List ℕ) (i new : ℕ) → new < 2 ^ 32 → word_in a cs ws < 2 ^ 32 → word_in a cs (set ws i new) < 2 ^ 32
+word_set a [] ws i new small less = less
+word_set a (c ∷ cs) [] i new small less = less
+word_set a (c ∷ cs) (w ∷ ws) zero new small less = by (a == c) less
+  where
+    by : (b : Bool) → (if b then w else word_in a cs ws) < 2 ^ 32 → (if b then new else word_in a cs ws) < 2 ^ 32
+    by true l = small
+    by false l = l
+word_set a (c ∷ cs) (w ∷ ws) (suc i) new small less = by (a == c) less (word_set a cs ws i new small)
+  where
+    by : (b : Bool) → (if b then w else word_in a cs ws) < 2 ^ 32 → (word_in a cs ws < 2 ^ 32 → word_in a cs (set ws i new) < 2 ^ 32)
+        → (if b then w else word_in a cs (set ws i new)) < 2 ^ 32
+    by true l later = l
+    by false l later = later l
 
 module _ (p : Patches) (cs ws : List ℕ) (e : p ≡ of_fields cs ws) (h : ArePatches (of_fields cs ws)) where
   addresses_are : p.addresses ≡ cs
@@ -143,6 +160,11 @@ module _ (p : Patches) (cs ws : List ℕ) (e : p ≡ of_fields cs ws) (h : ArePa
         (subst (λ l. i < length l) addresses_are inside) made r);
   }
 
+  pub words_view : (i new : ℕ) → new < 2 ^ 32 → KeepsWords p (of_fields cs (set ws i new))
+  words_view i new small =
+      subst (λ (o : Patches). KeepsWords o (of_fields cs (set ws i new))) (sym e)
+      (record { alike = length-set ws i new; fits = λ a less. word_set a cs ws i new small less })
+
   pub taken_none : (q byte : ℕ) → byte < 256 → position (λ a. meets a q 1) p.addresses ≡ None
       → IsSameTable (written_table q 1 byte (table_of p)) (table_of p)
   taken_none q byte small at = record {
@@ -152,6 +174,12 @@ module _ (p : Patches) (cs ws : List ℕ) (e : p ≡ of_fields cs ws) (h : ArePa
   }
 
 -- ---- several bytes
+
+pub words_itself : (p : Patches) → KeepsWords p p
+words_itself p = record { alike = refl; fits = λ a less. less }
+
+pub words_more : (p q r : Patches) → KeepsWords p q → KeepsWords q r → KeepsWords p r
+words_more p q r first next = record { alike = next.alike ∙ first.alike; fits = λ a less. next.fits a (first.fits a less) }
 
 pub same_itself : (t : Table) → IsSameTable t t
 same_itself t = record { covered = refl; bytes = λ q m. refl }

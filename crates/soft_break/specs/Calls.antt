@@ -115,5 +115,5 @@ pub record Planted (at original : ℕ) (old new : Tells) : Type 0 where
 
 pub data PlantFailed (at old_count new_count : ℕ) (old new : Tells) (e : AccessFault) : Type 0 where
   in_read : BusLoadFailed B4 at old_count new_count old new e → PlantFailed at old_count new_count old new e
-  in_write : (original mid_count : ℕ) (mid : Tells) → BusLoaded B4 at original old mid → old_count ≤ mid_count
+  in_write : (original mid_count : ℕ) (mid : Tells) → BusLoaded B4 at original old mid → old_count ≤ mid_count → mid_count ≤ new_count
       → BusStoreFailed B4 at ebreak_word mid_count new_count mid new e → PlantFailed at old_count new_count old new e

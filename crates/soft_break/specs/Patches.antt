@@ -1,6 +1,6 @@
 -- What a probe remembers of the software breakpoints that are set: their addresses, upwards, and the word that each has taken the place of.
 -- It is this project's own. What it means is said by the table of the laws of software breakpoints.
-use Rattle.std.specs.Prelude.{◌≡◌, ◌<◌, ℕ, true, List, [], ◌∷◌, length, All, ◌==◌, nat_lt, if◌then◌else◌}
+use Rattle.std.specs.Prelude.{◌≡◌, ◌<◌, ◌^◌, ℕ, true, List, [], ◌∷◌, length, All, ◌==◌, nat_lt, if◌then◌else◌}
 use Rattle.std.specs.FinMap.{empty, get}
 use Rattle.std.specs.Int.{byte_at}
 use Rattle.rv_model.specs.Memory.{Bytes, with_value}
@@ -84,3 +84,8 @@ original_of at p = word_in at p.addresses p.originals
 pub record IsReplaced (place byte old new : ℕ) : Type 0 where
   pub there : byte_at place new ≡ byte
   pub others : (k : ℕ) → k < patch_bytes → (k ≡ place → ⊥) → byte_at k new ≡ byte_at k old
+
+-- as many words are remembered, and each has 32 bits where it had them
+pub record KeepsWords (p q : Patches) : Type 0 where
+  pub alike : length q.originals ≡ length p.originals
+  pub fits : (at : ℕ) → original_of at p < 2 ^ 32 → original_of at q < 2 ^ 32

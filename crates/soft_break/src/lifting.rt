@@ -4,6 +4,7 @@ ghost use Rattle.std.specs.Prelude.{◌≡◌, true, IfErr, IfOk, OnOk};
 ghost use Rattle.rv_model.specs.declared.size.Size.TheVariants.{B4};
 ghost use Rattle.rv_model.specs.Memory.{is_aligned};
 ghost use Rattle.debug_model.specs.Kept.{CanCall, Keeps};
+ghost use Rattle.debug_model.specs.Rises.{Within};
 ghost use Rattle.probe_run.specs.Told.{Fails, OnChip, Serving, told};
 ghost use Rattle.probe_access.specs.Accesses.{AccessLeft, IfMemory, StoreRefused, StoredAt};
 ghost use Rattle.probe_access.specs.Cuts.{AccessLeftOff, IfCut, Leaves, Scratched, StoreLeaves};
@@ -48,6 +49,7 @@ impl SoftTable {
             (D.seen link.old).far (D.seen link.new).far)) }
         ensures serving { OnOk result (Serving h.now.number (D.seen link.new).far) }
         ensures serving_still { IfErr result (IfMemory (Serving h.now.number (D.seen link.new).far)) }
+        ensures rises { Within 66 (D.seen link.old) (D.seen link.new) }
         ensures keeps { Keeps access_why (D.seen link.old) (D.seen link.new) result }
     {
         store(link, h, Size::B4, at, u64::from(self.original(at)))?;
@@ -71,6 +73,7 @@ impl Uncovered {
             (D.seen link.old).far (D.seen link.new).far)) }
         ensures serving { OnOk result (Serving h.now.number (D.seen link.new).far) }
         ensures serving_still { IfErr result (IfMemory (Serving h.now.number (D.seen link.new).far)) }
+        ensures rises { Within 66 (D.seen link.old) (D.seen link.new) }
         ensures keeps { Keeps access_why (D.seen link.old) (D.seen link.new) result }
     {
         let Uncovered { at } = self;

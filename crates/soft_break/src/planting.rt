@@ -3,6 +3,7 @@
 ghost use Rattle.std.specs.Prelude.{◌≡◌, ◌<◌, ◌^◌, IfErr, IfOk, OnOk};
 ghost use Rattle.rv_model.specs.declared.size.Size.TheVariants.{B4};
 ghost use Rattle.debug_model.specs.Kept.{CanCall, Keeps};
+ghost use Rattle.debug_model.specs.Rises.{Within};
 ghost use Rattle.debug_model.specs.SoftCommand.{IsSoftAddress};
 ghost use Rattle.debug_model.specs.Told.{IsReady};
 ghost use Rattle.probe_run.specs.Told.{Fails, OnChip, told};
@@ -22,7 +23,7 @@ use probe_access::{AccessFault, bus_load, bus_store};
 use rv_model::Size;
 
 /// Reads the word at an address by one access, and stores an ebreak there by another. Answers what was read.
-#[tactic(auto, using(crate::proofs::PlantSteps::aligned_word))]
+#[tactic(auto, using(crate::proofs::PlantSteps::aligned_word, debug_model::proofs::RiseLemmas::within_then, debug_model::proofs::RiseLemmas::within_more))]
 fn take_place<D: Dmi>(link: &mut D, at: u64) -> Result<u32, AccessFault>
     requires callable { CanCall (D.seen link.old) }
     requires ready { IsReady (D.seen link.old).far }
@@ -34,6 +35,7 @@ fn take_place<D: Dmi>(link: &mut D, at: u64) -> Result<u32, AccessFault>
     ensures cut { IfErr result (IfCut (Leaves (PlantCut at) (D.seen link.old).far (D.seen link.new).far)) }
     ensures ready { OnOk result (IsReady (D.seen link.new).far) }
     ensures ready_again { IfErr result (IfMemory (IsReady (D.seen link.new).far)) }
+    ensures rises { Within 14 (D.seen link.old) (D.seen link.new) }
     ensures keeps { Keeps access_why (D.seen link.old) (D.seen link.new) result }
 {
     let original = bus_load(link, Size::B4, at)?;
@@ -54,6 +56,7 @@ fn give_back<D: Dmi>(link: &mut D, at: u64, original: u32) -> Result<(), AccessF
     ensures cut { IfErr result (IfCut (Leaves (BusLeftOff (StoreLeaves B4 at original)) (D.seen link.old).far (D.seen link.new).far)) }
     ensures ready { OnOk result (IsReady (D.seen link.new).far) }
     ensures ready_again { IfErr result (IfMemory (IsReady (D.seen link.new).far)) }
+    ensures rises { Within 7 (D.seen link.old) (D.seen link.new) }
     ensures keeps { Keeps access_why (D.seen link.old) (D.seen link.new) result }
 {
     bus_store(link, Size::B4, at, u64::from(original))?;
@@ -64,7 +67,7 @@ impl SoftTable {
     /// Sets a software breakpoint at a word, whose address is a multiple of 4 from 0x80000000: one access reads the word, and another stores an ebreak.
     /// `Set` where one is set there, and else `Full` where 32 are; then no access is made. Behind each fault the table is as it was; behind `Memory`, where the
     /// word lies outside memory, so is the chip.
-    #[tactic(auto, using(crate::proofs::LeadLemmas::plant_leads))]
+    #[tactic(auto, using(crate::proofs::LeadLemmas::plant_leads, debug_model::proofs::RiseLemmas::within_none))]
     pub fn plant<D: Dmi>(&mut self, link: &mut D, at: u64) -> Result<(), SoftFault>
         requires callable { CanCall (D.seen link.old) }
         requires ready { IsReady (D.seen link.old).far }
@@ -81,6 +84,7 @@ impl SoftTable {
         ensures cut { IfErr result (IfAccess (IfCut (Leaves (PlantCut at) (D.seen link.old).far (D.seen link.new).far))) }
         ensures ready { OnOk result (IsReady (D.seen link.new).far) }
         ensures ready_again { IfErr result (IfStill (IsReady (D.seen link.new).far)) }
+        ensures rises { Within 14 (D.seen link.old) (D.seen link.new) }
         ensures keeps { SoftKeeps (D.seen link.old) (D.seen link.new) result }
     {
         if self.planted(at) {
@@ -100,7 +104,7 @@ impl SoftTable {
 
     /// Takes the software breakpoint at a word out: one access stores the word that it has taken the place of. `NotSet` where none is set there; then no access
     /// is made. Behind each fault the table is as it was.
-    #[tactic(auto, using(crate::proofs::LeadLemmas::bus_lift_leads))]
+    #[tactic(auto, using(crate::proofs::LeadLemmas::bus_lift_leads, debug_model::proofs::RiseLemmas::within_none))]
     pub fn unplant<D: Dmi>(&mut self, link: &mut D, at: u64) -> Result<(), SoftFault>
         requires callable { CanCall (D.seen link.old) }
         requires ready { IsReady (D.seen link.old).far }
@@ -116,6 +120,7 @@ impl SoftTable {
             (IfAccess (IfCut (Leaves (BusLeftOff (StoreLeaves B4 at (original_of at self.old))) (D.seen link.old).far (D.seen link.new).far))) }
         ensures ready { OnOk result (IsReady (D.seen link.new).far) }
         ensures ready_again { IfErr result (IfStill (IsReady (D.seen link.new).far)) }
+        ensures rises { Within 7 (D.seen link.old) (D.seen link.new) }
         ensures keeps { SoftKeeps (D.seen link.old) (D.seen link.new) result }
     {
         if !self.planted(at) {

@@ -2,9 +2,11 @@
 
 ghost use Rattle.std.specs.Prelude.{◌≡◌, IfOk, IfErr, OnOk};
 ghost use Rattle.debug_model.specs.Kept.{CanCall, Keeps};
+ghost use Rattle.debug_model.specs.Rises.{Within};
 ghost use Rattle.debug_model.specs.Told.{IsReady};
 ghost use Rattle.probe_run.specs.Told.{Fails, Serving, told};
 ghost use Rattle.probe_access.specs.Faults.{access_why};
+ghost use Rattle.soft_break.specs.PrepareRises.{prepare_rises};
 ghost use Rattle.soft_break.specs.Preparing.{EbreakFailed, EbreakSet, PrepareFailed, PreparedAs, ebreak_halting};
 
 use debug_model::Dmi;
@@ -36,12 +38,14 @@ fn ebreak_halting(word: u64) -> u64
 }
 
 /// Sets `ebreakm` of a halted hart, which is selected, so that its ebreak halts it.
+#[tactic(auto, using(debug_model::proofs::RiseLemmas::within_then, debug_model::proofs::RiseLemmas::within_more))]
 fn set_ebreakm<D: Dmi>(link: &mut D, halted: &Halted) -> Result<(), AccessFault>
     requires callable { CanCall (D.seen link.old) }
     requires serving { Serving halted.now.number (D.seen link.old).far }
     ensures set { OnOk result (EbreakSet halted.now.number (told (D.seen link.old)) (told (D.seen link.new))) }
     ensures failed { IfErr result (Fails (EbreakFailed halted.now.number) (D.seen link.old) (D.seen link.new)) }
     ensures serving { OnOk result (Serving halted.now.number (D.seen link.new).far) }
+    ensures rises { Within 24 (D.seen link.old) (D.seen link.new) }
     ensures keeps { Keeps access_why (D.seen link.old) (D.seen link.new) result }
 {
     let word = reg(link, halted, register_number::DCSR)?;
@@ -57,6 +61,7 @@ pub fn prepare<D: Dmi>(link: &mut D, target: &Target) -> Result<Prepared, Access
     ensures prepared { IfOk result (PreparedAs (told (D.seen link.old)) (told (D.seen link.new))) }
     ensures failed { IfErr result (Fails PrepareFailed (D.seen link.old) (D.seen link.new)) }
     ensures ready { OnOk result (IsReady (D.seen link.new).far) }
+    ensures rises { Within (prepare_rises (D.seen link.old).far) (D.seen link.old) (D.seen link.new) }
     ensures keeps { Keeps access_why (D.seen link.old) (D.seen link.new) result }
 {
     'harts: for hart in 0..HARTS_MOST {

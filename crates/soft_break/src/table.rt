@@ -7,7 +7,7 @@ ghost use Rattle.soft_laws.specs.Lowered.{merged, merged_byte, written_table};
 ghost use Rattle.soft_laws.specs.Shown.{shown_byte, shown_value};
 ghost use Rattle.soft_laws.specs.SoftBreaks.{is_listed, meets, meets_some};
 ghost use Rattle.soft_laws.specs.SoftDebugger.{most_planted};
-ghost use Rattle.soft_break.specs.Patches.{IsSameTable, Upwards, no_patches, original_of, table_of, with_patch, without_patch};
+ghost use Rattle.soft_break.specs.Patches.{IsSameTable, KeepsWords, Upwards, no_patches, original_of, table_of, with_patch, without_patch};
 
 use crate::bytes::{byte_of, covers, has_common, with_byte};
 use arrayvec::ArrayVec;
@@ -72,6 +72,7 @@ impl SoftTable {
     pub fn hide(&self, size: Size, addr: u64, read: u64) -> u64
         requires aligned { is_aligned addr size ≡ true }
         ensures shown { result ≡ shown_value (table_of self.now) addr (count_of size) read }
+        ensures fits { result < 256 ^ count_of size }
     {
         self.hide_bytes(size.count(), addr, read)
     }
@@ -84,6 +85,7 @@ impl SoftTable {
         ensures fits { result < 256 ^ count_of size }
         ensures same { self.new.addresses ≡ self.old.addresses }
         ensures taken { IsSameTable (written_table addr (count_of size) value (table_of self.old)) (table_of self.new) }
+        ensures words { KeepsWords self.old self.new }
     {
         self.merge_bytes(size.count(), addr, value)
     }
@@ -133,6 +135,7 @@ impl SoftTable {
         ensures fits { result < 256 ^ count }
         ensures same { self.new.addresses ≡ self.old.addresses }
         ensures taken { IsSameTable (written_table addr count value (table_of self.old)) (table_of self.new) }
+        ensures words { KeepsWords self.old self.new }
     {
         let first = u64::from(self.merge_byte(addr, (value % 256) as u8));
         if count == 1 {
@@ -146,6 +149,7 @@ impl SoftTable {
         ensures merged { result ≡ merged_byte self.old.addresses at byte }
         ensures same { self.new.addresses ≡ self.old.addresses }
         ensures taken { IsSameTable (written_table at 1 byte (table_of self.old)) (table_of self.new) }
+        ensures words { KeepsWords self.old self.new }
     {
         match self.place_over(at) {
             Some(place) => {

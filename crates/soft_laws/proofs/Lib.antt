@@ -20,6 +20,7 @@ pub mod LoweredGood
 pub mod SoftQuiet
 pub mod ReadLemmas
 pub mod SoftSteps
+pub mod AlikePlans
 pub mod SoftFetched
 pub mod SoftLeads
 pub mod SoftExampleLemmas

@@ -8,12 +8,12 @@ use Rattle.std.specs.Cmp.{nat_cmp_total, unsigned_tied}
 use Rattle.std.proofs.lemmas.Bool.{cases_eq, cases_lt, eq-eqb, eqb-true, false≢true, ne_eqb, or_parts}
 use Rattle.rv_model.specs.Memory.{Bytes, kept_byte, ram_base, with_value}
 use Rattle.rv_model.proofs.MapLemmas.{kept_high}
-use Rattle.soft_laws.specs.Lowered.{copied, ebreak_over, hidden_bytes, merged, merged_byte, put}
+use Rattle.soft_laws.specs.Lowered.{copied, ebreak_over, hidden_bytes, merged, merged_byte, put, where_held}
 use Rattle.soft_laws.specs.SoftBreaks.{AreInside, AreSoftAddresses, IsSoftAddress, ebreak_word, meets, meets_some, patched_by, patched_bytes, without}
 use Rattle.soft_laws.proofs.ByteLemmas.{Place, byte_or, byte_some, byte_within, get-with_value, get_insert, place_of, same_bytes, writes_swap}
 use Rattle.soft_laws.proofs.ByteLemmas.{byte_above, byte_below, byte_or-whole, written_over}
 use Rattle.soft_laws.proofs.ByteLemmas.Place.{below, within, above}
-use Rattle.soft_laws.proofs.PatchedLemmas.{either_true, get-patched, meets-apart, meets-within, patched_or, uncovered_byte, words_apart}
+use Rattle.soft_laws.proofs.PatchedLemmas.{covered_byte, either_true, get-patched, meets-apart, meets-within, patched_or, uncovered_byte, words_apart}
 
 -- ---- hiding
 
@@ -24,34 +24,37 @@ get-put None a m q = get-remove nat_cmp_total m a q ∙ ap (λ b. cond b None (g
 -- the byte at q of a map into which another's bytes x are copied
 abbrev copied_or : ℕ → ℕ → ℕ → Option ℕ → Option ℕ → Option ℕ
 copied_or a zero q x o = o
-copied_or a (suc n) q x o = if q == a then x else copied_or (a + 1) n q x o
+copied_or a (suc n) q x o = if q == a then where_held o x else copied_or (a + 1) n q x o
 
 get-copied : (from : Bytes) (a n : ℕ) (m : Bytes) (q : ℕ) → get (copied from a n m) q ≡ copied_or a n q (get from q) (get m q)
 get-copied from a zero m q = refl
 get-copied from a (suc n) m q =
-    get-put (get from a) a (copied from (a + 1) n m) q ∙ ap (λ o. if q == a then get from a else o) (get-copied from (a + 1) n m q)
+    get-put (where_held (get m a) (get from a)) a (copied from (a + 1) n m) q
+    ∙ ap (λ o. if q == a then where_held (get m a) (get from a) else o) (get-copied from (a + 1) n m q)
     ∙ same_source (q == a) refl (copied_or (a + 1) n q (get from q) (get m q))
   where
-    same_source : (b : Bool) → (q == a) ≡ b → (o : Option ℕ) → (if b then get from a else o) ≡ (if b then get from q else o)
-    same_source true e o = ap (get from) (sym (eqb-true q a e))
+    same_source : (b : Bool) → (q == a) ≡ b → (o : Option ℕ)
+        → (if b then where_held (get m a) (get from a) else o) ≡ (if b then where_held (get m q) (get from q) else o)
+    same_source true e o = ap (λ k. where_held (get m k) (get from k)) (sym (eqb-true q a e))
     same_source false e o = refl
 
-copied_within : (a n q : ℕ) (x o : Option ℕ) → a ≤ q → q < a + n → copied_or a n q x o ≡ x
+copied_within : (a n q : ℕ) (x o : Option ℕ) → a ≤ q → q < a + n → copied_or a n q x o ≡ where_held o x
 copied_within a zero q x o from less = absurd (omega arith)
 copied_within a (suc n) q x o from less = elim (cases_eq q a) [
-  | inl e ↦ ap (λ b. if b then x else copied_or (a + 1) n q x o) (eq-eqb q a e)
-  | inr other ↦ ap (λ b. if b then x else copied_or (a + 1) n q x o) (ne_eqb q a other) ∙ copied_within (a + 1) n q x o (omega arith) (omega arith)
+  | inl e ↦ ap (λ b. if b then where_held o x else copied_or (a + 1) n q x o) (eq-eqb q a e)
+  | inr other ↦ ap (λ b. if b then where_held o x else copied_or (a + 1) n q x o) (ne_eqb q a other)
+      ∙ copied_within (a + 1) n q x o (omega arith) (omega arith)
 ]
 
 copied_below : (a n q : ℕ) (x o : Option ℕ) → q < a → copied_or a n q x o ≡ o
 copied_below a zero q x o less = refl
 copied_below a (suc n) q x o less =
-    ap (λ b. if b then x else copied_or (a + 1) n q x o) (ne_eqb q a (λ e. absurd (omega arith))) ∙ copied_below (a + 1) n q x o (omega arith)
+    ap (λ b. if b then where_held o x else copied_or (a + 1) n q x o) (ne_eqb q a (λ e. absurd (omega arith))) ∙ copied_below (a + 1) n q x o (omega arith)
 
 copied_above : (a n q : ℕ) (x o : Option ℕ) → a + n ≤ q → copied_or a n q x o ≡ o
 copied_above a zero q x o more = refl
 copied_above a (suc n) q x o more =
-    ap (λ b. if b then x else copied_or (a + 1) n q x o) (ne_eqb q a (λ e. absurd (omega arith))) ∙ copied_above (a + 1) n q x o (omega arith)
+    ap (λ b. if b then where_held o x else copied_or (a + 1) n q x o) (ne_eqb q a (λ e. absurd (omega arith))) ∙ copied_above (a + 1) n q x o (omega arith)
 
 copied_outside : (c q : ℕ) (x o : Option ℕ) → meets c q 1 ≡ false → copied_or c 4 q x o ≡ o
 copied_outside c q x o none = elim (meets-apart c q 1 none) [
@@ -69,19 +72,38 @@ get-hidden [] originals m q = refl
 get-hidden (c ∷ cs) originals m q =
     get-copied originals c 4 (hidden_bytes cs originals m) q ∙ ap (copied_or c 4 q (get originals q)) (get-hidden cs originals m q)
 
-pub hidden_covered : (cs : List ℕ) (q : ℕ) (x o : Option ℕ) → meets_some cs q 1 ≡ true → hidden_or cs q x o ≡ x
-hidden_covered [] q x o is = absurd (false≢true is)
-hidden_covered (c ∷ cs) q x o is = by (meets c q 1) refl (hidden_covered cs q x o)
-  where
-    by : (b : Bool) → meets c q 1 ≡ b → (meets_some cs q 1 ≡ true → hidden_or cs q x o ≡ x) → copied_or c 4 q x (hidden_or cs q x o) ≡ x
-    by true e later = copied_within c 4 q x (hidden_or cs q x o) (meets-within c q e).from (meets-within c q e).less
-    by false e later = copied_outside c q x (hidden_or cs q x o) e ∙ later (sym (ap (λ b. b || meets_some cs q 1) e) ∙ is)
-
 pub hidden_uncovered : (cs : List ℕ) (q : ℕ) (x o : Option ℕ) → meets_some cs q 1 ≡ false → hidden_or cs q x o ≡ o
 hidden_uncovered [] q x o none = refl
 hidden_uncovered (c ∷ cs) q x o none =
     let parts = or_parts (meets c q 1) (meets_some cs q 1) none in
     copied_outside c q x (hidden_or cs q x o) parts.0 ∙ hidden_uncovered cs q x o parts.1
+
+held_twice : (o x : Option ℕ) → where_held (where_held o x) x ≡ where_held o x
+held_twice None x = refl
+held_twice (Some v) None = refl
+held_twice (Some v) (Some w) = refl
+
+pub hidden_covered : (cs : List ℕ) (q : ℕ) (x o : Option ℕ) → meets_some cs q 1 ≡ true → hidden_or cs q x o ≡ where_held o x
+hidden_covered [] q x o is = absurd (false≢true is)
+hidden_covered (c ∷ cs) q x o is = by (meets c q 1) refl (meets_some cs q 1) refl (hidden_covered cs q x o)
+  where
+    rest : (b : Bool) → meets_some cs q 1 ≡ b → (meets_some cs q 1 ≡ true → hidden_or cs q x o ≡ where_held o x)
+        → where_held (hidden_or cs q x o) x ≡ where_held o x
+    rest true e later = ap (λ h. where_held h x) (later e) ∙ held_twice o x
+    rest false e later = ap (λ h. where_held h x) (hidden_uncovered cs q x o e)
+
+    by : (b : Bool) → meets c q 1 ≡ b → (more : Bool) → meets_some cs q 1 ≡ more → (meets_some cs q 1 ≡ true → hidden_or cs q x o ≡ where_held o x)
+        → copied_or c 4 q x (hidden_or cs q x o) ≡ where_held o x
+    by true e more f later = copied_within c 4 q x (hidden_or cs q x o) (meets-within c q e).from (meets-within c q e).less ∙ rest more f later
+    by false e more f later = copied_outside c q x (hidden_or cs q x o) e ∙ later (sym (ap (λ b. b || meets_some cs q 1) e) ∙ is)
+
+-- where memory holds the byte
+pub hidden_held : (cs : List ℕ) (q : ℕ) (x o : Option ℕ) → meets_some cs q 1 ≡ true → is_some o ≡ true → hidden_or cs q x o ≡ x
+hidden_held cs q x o is held = hidden_covered cs q x o is ∙ by o held
+  where
+    by : (o : Option ℕ) → is_some o ≡ true → where_held o x ≡ x
+    by None e = absurd (false≢true e)
+    by (Some v) e = refl
 
 abbrev pub Remembers : List ℕ → (originals m : Bytes) → Type 0
 Remembers cs originals m = (q : ℕ) → meets_some cs q 1 ≡ true → get originals q ≡ get m q
@@ -92,7 +114,8 @@ hidden-patched cs originals m remembers = same_bytes (hidden_bytes cs originals 
     get-hidden cs originals (patched_bytes cs m) q ∙ by q (meets_some cs q 1) refl)
   where
     by : (q : ℕ) (b : Bool) → meets_some cs q 1 ≡ b → hidden_or cs q (get originals q) (get (patched_bytes cs m) q) ≡ get m q
-    by q true e = hidden_covered cs q (get originals q) (get (patched_bytes cs m) q) e ∙ remembers q e
+    by q true e =
+        hidden_held cs q (get originals q) (get (patched_bytes cs m) q) e (ap is_some (get-patched cs m q) ∙ covered_byte cs q (get m q) e) ∙ remembers q e
     by q false e =
         hidden_uncovered cs q (get originals q) (get (patched_bytes cs m) q) e ∙ get-patched cs m q ∙ uncovered_byte cs q (get m q) e
 

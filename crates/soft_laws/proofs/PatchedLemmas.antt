@@ -139,7 +139,7 @@ uncovered_byte (c ∷ cs) q o none =
     let parts = or_parts (meets c q 1) (meets_some cs q 1) none in
     byte_outside c q ebreak_word (patched_or cs q o) parts.0 ∙ uncovered_byte cs q o parts.1
 
-covered_byte : (cs : List ℕ) (q : ℕ) (o : Option ℕ) → meets_some cs q 1 ≡ true → is_some (patched_or cs q o) ≡ true
+pub covered_byte : (cs : List ℕ) (q : ℕ) (o : Option ℕ) → meets_some cs q 1 ≡ true → is_some (patched_or cs q o) ≡ true
 covered_byte [] q o is = absurd (false≢true is)
 covered_byte (c ∷ cs) q o is = by (meets c q 1) refl (covered_byte cs q o)
   where

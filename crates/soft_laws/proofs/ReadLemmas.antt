@@ -23,12 +23,12 @@ use Rattle.abstract_debugger.specs.Plan.Change.{WriteReg, WriteMem, ArmSlot, Fre
 use Rattle.abstract_debugger.specs.Transcript.{World, passed}
 use Rattle.abstract_debugger.proofs.Keeps.{replay-keeps}
 use Rattle.soft_laws.specs.CallLaws.{BytesStay, ReadsHide, Stays}
-use Rattle.soft_laws.specs.Lowered.{Table, hidden_bytes, hidden_memory}
+use Rattle.soft_laws.specs.Lowered.{Table, hidden_bytes, hidden_memory, where_held}
 use Rattle.soft_laws.specs.Shown.{AreBytes, RemembersEach, shown_answer, shown_byte, shown_value}
-use Rattle.soft_laws.specs.SoftBreaks.{AreInside, meets_some}
+use Rattle.soft_laws.specs.SoftBreaks.{meets_some}
 use Rattle.soft_laws.specs.Undisturbed.{accessed_of}
 use Rattle.soft_laws.proofs.ByteLemmas.{byte_or, get-with_value}
-use Rattle.soft_laws.proofs.PatchLemmas.{get-hidden, hidden_covered, hidden_or, hidden_uncovered, written-there}
+use Rattle.soft_laws.proofs.PatchLemmas.{get-hidden, hidden_covered, hidden_held, hidden_or, hidden_uncovered, written-there}
 use Rattle.soft_laws.proofs.StoreLemmas.{Stored, outcome-bytes}
 
 -- ---- one byte
@@ -44,14 +44,14 @@ byte_shown t m each q byte is = get-hidden t.covered t.originals m q ∙ by (mee
 
     by : (b : Bool) → meets_some t.covered q 1 ≡ b
         → hidden_or t.covered q (get t.originals q) (get m q) ≡ Some (if b then unwrap_or (get t.originals q) 0 else byte)
-    by true e = hidden_covered t.covered q (get t.originals q) (get m q) e ∙ known (get t.originals q) (each q e)
+    by true e = hidden_held t.covered q (get t.originals q) (get m q) e (ap is_some is) ∙ known (get t.originals q) (each q e)
     by false e = hidden_uncovered t.covered q (get t.originals q) (get m q) e ∙ is
 
-byte_absent : (t : Table) (m : Bytes) → AreInside t.covered m → (q : ℕ) → get m q ≡ None → get (hidden_bytes t.covered t.originals m) q ≡ None
-byte_absent t m inside q is = get-hidden t.covered t.originals m q ∙ by (meets_some t.covered q 1) refl
+byte_absent : (t : Table) (m : Bytes) (q : ℕ) → get m q ≡ None → get (hidden_bytes t.covered t.originals m) q ≡ None
+byte_absent t m q is = get-hidden t.covered t.originals m q ∙ by (meets_some t.covered q 1) refl
   where
     by : (b : Bool) → meets_some t.covered q 1 ≡ b → hidden_or t.covered q (get t.originals q) (get m q) ≡ None
-    by true e = absurd (false≢true (sym (ap is_some is) ∙ inside q e))
+    by true e = hidden_covered t.covered q (get t.originals q) (get m q) e ∙ ap (λ o. where_held o (get t.originals q)) is
     by false e = hidden_uncovered t.covered q (get t.originals q) (get m q) e ∙ is
 
 -- ---- a value
@@ -62,12 +62,12 @@ lowest b r small = omega (arith, small)
 higher : (b r : ℕ) → b < 256 → (b + 256 * r) / 256 ≡ r
 higher b r small = omega (arith, small)
 
-value_shown : (t : Table) (m : Bytes) → AreInside t.covered m → RemembersEach t → AreBytes m → (a n : ℕ)
+value_shown : (t : Table) (m : Bytes) → RemembersEach t → AreBytes m → (a n : ℕ)
     → value_at (hidden_bytes t.covered t.originals m) a n ≡ option_map (shown_value t a n) (value_at m a n)
 unfolding shown_value
-value_shown t m inside each small a zero = refl
-value_shown t m inside each small a (suc n) =
-    ap (with_byte (get (hidden_bytes t.covered t.originals m) a)) (value_shown t m inside each small (a + 1) n)
+value_shown t m each small a zero = refl
+value_shown t m each small a (suc n) =
+    ap (with_byte (get (hidden_bytes t.covered t.originals m) a)) (value_shown t m each small (a + 1) n)
     ∙ by (get m a) refl (value_at m (a + 1) n)
   where
     shown_first : (b r : ℕ) → b < 256 → shown_byte t a b + 256 * shown_value t (a + 1) n r ≡ shown_value t a (suc n) (b + 256 * r)
@@ -83,16 +83,16 @@ value_shown t m inside each small a (suc n) =
     by : (o : Option ℕ) → get m a ≡ o → (rest : Option ℕ)
         → with_byte (get (hidden_bytes t.covered t.originals m) a) (option_map (shown_value t (a + 1) n) rest)
         ≡ option_map (shown_value t a (suc n)) (with_byte o rest)
-    by None e rest = ap (λ o. with_byte o (option_map (shown_value t (a + 1) n) rest)) (byte_absent t m inside a e)
+    by None e rest = ap (λ o. with_byte o (option_map (shown_value t (a + 1) n) rest)) (byte_absent t m a e)
     by (Some b) e rest =
         ap (λ o. with_byte o (option_map (shown_value t (a + 1) n) rest)) (byte_shown t m each a b e) ∙ some_rest b (small a b e) rest
 
 -- ---- a read
 
-answer_shown : (t : Table) (m : Memory) (a : ℕ) (size : Size) → AreInside t.covered m.bytes → RemembersEach t → AreBytes m.bytes
+answer_shown : (t : Table) (m : Memory) (a : ℕ) (size : Size) → RemembersEach t → AreBytes m.bytes
     → loaded (hidden_memory t m) a size ≡ shown_answer t a size (loaded m a size)
 unfolding loaded
-answer_shown t m a size inside each small = by (is_aligned a size)
+answer_shown t m a size each small = by (is_aligned a size)
   where
     outside : (o : Option ℕ) → or_outside (option_map (shown_value t a (count_of size)) o) ≡ shown_answer t a size (or_outside o)
     outside None = refl
@@ -100,7 +100,7 @@ answer_shown t m a size inside each small = by (is_aligned a size)
 
     by : (b : Bool) → (if b then or_outside (value_at (hidden_bytes t.covered t.originals m.bytes) a (count_of size)) else Err Misaligned)
         ≡ shown_answer t a size (if b then or_outside (value_at m.bytes a (count_of size)) else Err Misaligned)
-    by true = ap or_outside (value_shown t m.bytes inside each small a (count_of size)) ∙ outside (value_at m.bytes a (count_of size))
+    by true = ap or_outside (value_shown t m.bytes each small a (count_of size)) ∙ outside (value_at m.bytes a (count_of size))
     by false = refl
 
 shown_answered : (t : Table) (a : ℕ) (size : Size) (r : Result ℕ MemFault) → answered (shown_answer t a size r) ≡ answered r
@@ -108,9 +108,9 @@ shown_answered t a size (Ok v) = refl
 shown_answered t a size (Err fault) = refl
 
 pub reads_hide : ReadsHide
-reads_hide t m a size inside each small = record {
-  value = answer_shown t m a size inside each small;
-  store = store_answer_is (hidden_memory t m) a size ∙ ap answered (answer_shown t m a size inside each small)
+reads_hide t m a size each small = record {
+  value = answer_shown t m a size each small;
+  store = store_answer_is (hidden_memory t m) a size ∙ ap answered (answer_shown t m a size each small)
       ∙ shown_answered t a size (loaded m a size) ∙ sym (store_answer_is m a size);
 }
 
@@ -163,7 +163,7 @@ asked-stays : (o : Option Hart) (f : DebugPart → DebugPart) (h : ℕ) (b : Boa
 asked-stays (Some x) f h b = stays_same b.memory.bytes
 asked-stays None f h b = stays_same b.memory.bytes
 
-passed-stays : (q : Point) (w : World) → Stays w.board.memory.bytes (passed q w).board.memory.bytes
+pub passed-stays : (q : Point) (w : World) → Stays w.board.memory.bytes (passed q w).board.memory.bytes
 passed-stays (Turn h) w = turn-stays (slice_get w.board.harts h) h w.board
 passed-stays (Look n) w = stays_same w.board.memory.bytes
 passed-stays (HaltReq h) w = asked-stays (slice_get w.board.harts h) (halt_requested true) h w.board

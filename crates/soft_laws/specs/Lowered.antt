@@ -24,12 +24,17 @@ abbrev pub put : Option ℕ → ℕ → Bytes → Bytes
 put (Some byte) a m = insert m a byte
 put None a m = remove m a
 
--- the map with so many bytes from an address on as another has them
+-- what another map has of a byte, where there is one
+abbrev pub where_held : (held other : Option ℕ) → Option ℕ
+where_held None other = None
+where_held (Some byte) other = other
+
+-- the map with so many of its bytes from an address on as another has them
 abbrev pub copied : Bytes → ℕ → ℕ → Bytes → Bytes
 copied from a zero m = m
-copied from a (suc n) m = put (get from a) a (copied from (a + 1) n m)
+copied from a (suc n) m = put (where_held (get m a) (get from a)) a (copied from (a + 1) n m)
 
--- the map with the originals at the covered words
+-- the map with the originals at the covered words: what lies outside memory stays outside
 unfoldable pub hidden_bytes : List ℕ → Bytes → Bytes → Bytes
 hidden_bytes [] originals m = m
 hidden_bytes (c ∷ cs) originals m = copied originals c patch_bytes (hidden_bytes cs originals m)

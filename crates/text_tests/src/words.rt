@@ -37,7 +37,11 @@ both --gen 5 --chain t,2,3,4,5,6,7,8|1 65536 false 0 1 16777200 256 near [8, 7, 
 both --gen 5 --chain 2,3,4,5,6,7,8,t|1 65536 false 0 1 16777200 256 near [] far [8, 7, 6, 5, 4, 3, 2]\n\
 both --gen 5 --chain 2,3,4,t,5,6,7|1 65536 false 0 1 16777200 256 near [7, 6, 5] far [4, 3, 2]\n\
 both --script=--halt --image core.bin|Files { image: \"core.bin\", script: \"--halt\" } 1 65536 false 0 1 16777200 256 straight\n\
+both --elf e --script s|e loaded, s 1 65536 false 0 1 16777200 256\n\
+both --script=s --elf=e --harts 4 --ram 131072 --halted --seed 7 --busy 32 --events 9 --piece 1 --v013|e loaded, s 4 131072 true 7 32 9 of 0.13 1\n\
+both --script=--elf --elf=--script|--script loaded, --elf 1 65536 false 0 1 16777200 256\n\
 probe --at localhost:9000 --script probe|localhost:9000 probe straight\n\
+probe --script s --elf e --at a|a e loaded, s\n\
 probe --at a --script s --chain 4,t,6|a s near [6] far [4]\n\
 chip --at  --image a --halted --harts 4| a 4 65536 true 0 1 16777200 straight\n\
 chip --v013 --at a --image i|a i 1 65536 false 0 1 16777200 of 0.13 straight\n\
@@ -50,7 +54,7 @@ sniff --vcd --answers=s --stream=a|a s drawn";
 /// Lines of words that write no job, with a line feed after each but the last: no program or another; an option of another
 /// program, an unknown or a shortened one, or one that asks for help or a version; an option twice, a missing value, a flag with
 /// one, or a word that is no option; inputs that are missing or given twice; words that are no number; numbers out of range; lists that write no chain, or
-/// one that stands beside `--loopback`.
+/// one that stands beside `--loopback`; an ELF file without a script, or beside what may not stand there.
 const REFUSED: &str = "\n\
 Both --gen 5\n\
 bench --gen 5\n\
@@ -158,7 +162,29 @@ both --gen 5 --chain 4,t --loopback\n\
 both --gen 5 --loopback --chain t,8\n\
 probe --at a --script s --chain t\n\
 chip --at a --image i --chain t\n\
-sniff --stream s --answers a --chain 4,t";
+sniff --stream s --answers a --chain 4,t\n\
+both --elf e\n\
+both --elf\n\
+both --elf e --elf e --script s\n\
+both --elf e --script s --image i\n\
+both --elf e --image i\n\
+both --elf e --gen 5\n\
+both --elf e --script s --gen 5\n\
+both --elf e --script s --chain 4,t\n\
+both --elf e --script s --loopback\n\
+both --elf e --script s --piece 257\n\
+both --elf e --script s --busy 0\n\
+both --elf e --script s --harts one\n\
+both --elf e --script s --at a\n\
+probe --at a --elf e\n\
+probe --elf e --script s\n\
+probe --at a --elf e --script s --chain 4,t\n\
+probe --at a --elf e --script s --elf e\n\
+probe --at a --elf e --script s --halted\n\
+probe --at a --elf e --script s --piece 1\n\
+chip --at a --elf e\n\
+chip --at a --image i --elf e\n\
+sniff --stream s --answers a --elf e";
 
 /// Lines of words that write no job, and what is said of them, with a bar between them and a line feed after each pair but the last.
 const WHYS: &str = "Both --gen 5|'Both' is no job: both, probe, chip and sniff are\n\
@@ -191,7 +217,17 @@ chip --at a --image i --chain t,9|'t,9' of --chain is no list from TDI to TDO, p
 from 2 to 8, of 1 to 7 others\n\
 both --gen 5 --loopback --chain 4,4|'4,4' of --chain is no list from TDI to TDO, parted by commas, of 't' for the chip and the instruction register lengths, \
 from 2 to 8, of 1 to 7 others\n\
-both --gen 5 --chain 4,t,6 --loopback|--chain may not stand beside --loopback";
+both --gen 5 --chain 4,t,6 --loopback|--chain may not stand beside --loopback\n\
+both --elf e --script s --image i|--image may not stand beside --elf\n\
+both --elf e --gen 5|--gen may not stand beside --elf\n\
+both --elf e --script s --chain 4,4|--chain may not stand beside --elf\n\
+both --elf e --script s --loopback|--elf may not stand beside --loopback\n\
+both --elf e|--script is missing\n\
+both --elf e --script s --piece 0|0 of --piece is not from 1 to 256\n\
+both --elf e --script s --busy 33|33 of --busy is not from 1 to 32\n\
+probe --at a --elf e|--script is missing\n\
+probe --elf e --script s|--at is missing\n\
+probe --at a --elf e --script s --chain t,8|--chain may not stand beside --elf";
 
 /// The words of a line, which single spaces part.
 fn words_of(alloc: Global, line: &str) -> Result<Vec<String>, AllocError> {
@@ -261,9 +297,21 @@ fn shown_job(alloc: Global, job: Job) -> Result<String, Fail> {
                 inputs => Ok(format!(in alloc; "{inputs:?} {options} {piece} {way}")?),
             }
         }
+        Job::Elf {
+            file,
+            script,
+            options,
+            piece,
+        } => {
+            let options = shown_options(alloc, options)?;
+            Ok(format!(in alloc; "{file} loaded, {script} {options} {piece}")?)
+        }
         Job::Probe { at, script, chain } => {
             let chain = shown_chain(alloc, chain)?;
             Ok(format!(in alloc; "{at} {script} {chain}")?)
+        }
+        Job::ProbeElf { at, file, script } => {
+            Ok(format!(in alloc; "{at} {file} loaded, {script}")?)
         }
         Job::Chip {
             at,

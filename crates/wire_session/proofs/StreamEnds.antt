@@ -32,14 +32,14 @@ unfolding feed
 quits_at c None = refl
 quits_at c (Some end) = refl
 
-sent_chip : (f : Far) → chip_of (sent quit f) ≡ chip_of f
+pub sent_chip : (f : Far) → chip_of (sent quit f) ≡ chip_of f
 sent_chip f = quits_at f.live.chip f.live.ended
 
 unsent_chip : (f : Far) → chip_of (sent [] f) ≡ chip_of f
 unfolding feed
 unsent_chip f = refl
 
-front_chip : (f : Far) (front back : List ℕ) → quit ≡ front ++ back → chip_of (sent front f) ≡ chip_of f
+pub front_chip : (f : Far) (front back : List ℕ) → quit ≡ front ++ back → chip_of (sent front f) ≡ chip_of f
 front_chip f [] back cut = unsent_chip f
 front_chip f (b ∷ []) back cut = let same : b ≡ 81 = cc in ap (λ x. chip_of (sent (x ∷ []) f)) same ∙ sent_chip f
 front_chip f (b ∷ c ∷ more) back cut = absurd (let none : ⊥ = cc in none)

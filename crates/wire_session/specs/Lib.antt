@@ -1,3 +1,4 @@
+pub mod Budget
 pub mod Closing
 pub mod Headline
 pub mod Seen

@@ -8,4 +8,4 @@ mod session;
 mod stream_end;
 
 pub use session::{know_ranges, run_over_scan, run_session};
-pub use stream_end::{QUIT, sends_quit, unclosed};
+pub use stream_end::{QUIT, end_stream, sends_quit, unclosed};

@@ -4,12 +4,14 @@ ghost use Rattle.std.specs.Prelude.{◌≡◌, ◌≤◌, All};
 ghost use Rattle.debug_model.specs.Command.{IsWithinRanges};
 ghost use Rattle.debug_model.specs.Dmi.{CanOperate};
 ghost use Rattle.debug_model.specs.Told.{IsAsLoaded, IsRead};
+ghost use Rattle.wire_session.specs.Budget.{WithinBudget, slack_of_wire};
 ghost use Rattle.wire_session.specs.Closing.{IsOfRegister};
 ghost use Rattle.wire_session.specs.Session.{LeavesWire, told_by, told_by_scan};
-ghost use Rattle.wire_session.specs.WireSession.{IsTimed, WireSession};
+ghost use Rattle.wire_session.specs.WireSession.{IsTimed, WireSession, WireUpTo};
 ghost use Rattle.probe_session.specs.Causes.{EndCaused, SinkCaused};
 ghost use Rattle.probe_session.specs.Scripts.{EndedAs};
 ghost use Rattle.probe_session.specs.Transcribed.{TranscribedAs};
+ghost use Rattle.probe_session.specs.UnderWay.{EndedUpTo};
 
 use crate::stream_end::end_stream;
 use debug_model::{Scan, Script, Wire};
@@ -30,6 +32,10 @@ pub fn run_over_scan<S: Scan, K: Sink>(scan: S, script: &Script, out: &mut K) ->
     ensures cause { EndCaused (S.seen scan).fault_count (S.seen result.1).fault_count (S.seen result.1).far result.0 }
     ensures sink_cause { SinkCaused (K.fault_count out.old) (K.fault_count out.new) result.0 }
     ensures transcribed { TranscribedAs script.now (K.contents out.old) (K.contents out.new) (S.seen scan).far (S.seen result.1).far result.0 }
+    ensures up_to { EndedUpTo script.now (S.seen scan).fault_count (S.seen result.1).fault_count (told_by_scan (S.seen scan))
+        (told_by_scan (S.seen result.1)) (K.fault_count out.old) (K.fault_count out.new) (K.contents out.old)
+        (K.contents out.new) result.0 }
+    ensures rises { WithinBudget (S.seen scan).fixed.slack script.now (S.seen scan).far (S.seen result.1).far }
     ensures leaves { LeavesWire (S.seen result.1).far result.0 }
     ensures later { (S.seen scan).fault_count ≤ (S.seen result.1).fault_count }
     ensures fixed { (S.seen result.1).fixed ≡ (S.seen scan).fixed }
@@ -50,6 +56,10 @@ fn run_over<W: Wire, K: Sink>(wire: W, script: &Script, out: &mut K) -> (Ended, 
     ensures cause { EndCaused (W.fault_count wire) (W.fault_count result.1) (W.far result.1) result.0 }
     ensures sink_cause { SinkCaused (K.fault_count out.old) (K.fault_count out.new) result.0 }
     ensures transcribed { TranscribedAs script.now (K.contents out.old) (K.contents out.new) (W.far wire) (W.far result.1) result.0 }
+    ensures up_to { EndedUpTo script.now (W.fault_count wire) (W.fault_count result.1) (told_by (W.far wire) (W.coming wire))
+        (told_by (W.far result.1) (W.coming result.1)) (K.fault_count out.old) (K.fault_count out.new) (K.contents out.old)
+        (K.contents out.new) result.0 }
+    ensures rises { WithinBudget slack_of_wire script.now (W.far wire) (W.far result.1) }
     ensures leaves { LeavesWire (W.far result.1) result.0 }
     ensures later { W.fault_count wire ≤ W.fault_count result.1 }
     ensures ties { W.ties result.1 ≡ W.ties wire }
@@ -80,6 +90,13 @@ pub fn run_session<W: Wire, K: Sink>(wire: &mut W, script: &Script, out: &mut K)
         (record { printed = K.contents out.old; faults = K.fault_count out.old })
         (record { printed = K.contents out.new; faults = K.fault_count out.new })
         result }
+    ensures up_to { WireUpTo script.now
+        (record { far = W.far wire.old; coming = W.coming wire.old; faults = W.fault_count wire.old })
+        (record { far = W.far wire.new; coming = W.coming wire.new; faults = W.fault_count wire.new })
+        (record { printed = K.contents out.old; faults = K.fault_count out.old })
+        (record { printed = K.contents out.new; faults = K.fault_count out.new })
+        result }
+    ensures rises { WithinBudget slack_of_wire script.now (W.far wire.old) (W.far wire.new) }
     ensures of_register { IsOfRegister result }
     ensures sink_cause { SinkCaused (K.fault_count out.old) (K.fault_count out.new) result }
     ensures ties { W.ties wire.new ≡ W.ties wire.old }

@@ -1,26 +1,14 @@
-use Rattle.command_line.specs.WrittenJob.{both_in, both_from}
-use Rattle.command_line.proofs.GivesLemmas.{gives_err, gives_then}
+use Rattle.std.proofs.Common.{sym, ap, ◌∙◌}
+use Rattle.command_line.specs.WrittenJob.{both_by, both_in, rows_found}
+use Rattle.command_line.proofs.GivesLemmas.{gives_at}
 use Rattle.command_line.proofs.reading.both_in.Goals as goal
 
-pub returns-in_err-inputs : goal.returns-in_err-inputs
+pub returns-then-flag : goal.returns-then-flag
 unfolding both_in
-returns-in_err-inputs c = gives_err _ _ _ _ _ c.in_err-inputs.ensures c.from_residual.ensures.1
+returns-then-flag c =
+    gives_at _ _ _ _ (ap (λ soft. both_by soft (rows_found c.args.matches.now)) (sym c.if-flag.true ∙ c.flag.ensures)) c.soft_in.ensures
 
-pub returns-in_err-options : goal.returns-in_err-options
+pub returns-else-flag : goal.returns-else-flag
 unfolding both_in
-returns-in_err-options c = gives_then _ _ _ _ _ c.in_ok-inputs.ensures (gives_err _ _ _ _ _ c.in_err-options.ensures c.from_residual-in_err-options.ensures.1)
-
-pub returns-in_err-piece : goal.returns-in_err-piece
-unfolding both_in
-returns-in_err-piece c = gives_then _ _ _ _ _ c.in_ok-inputs.ensures
-    (gives_then _ _ _ _ _ c.in_ok-options.ensures (gives_err _ _ _ _ _ c.in_err-piece.ensures.read c.from_residual-in_err-piece.ensures.1))
-
-pub returns-in_err-way : goal.returns-in_err-way
-unfolding both_in
-returns-in_err-way c = gives_then _ _ _ _ _ c.in_ok-inputs.ensures
-    (gives_then _ _ _ _ _ c.in_ok-options.ensures
-    (gives_then _ _ _ _ _ c.in_ok-piece.ensures.read (gives_err _ _ _ _ _ c.in_err-way.ensures c.from_residual-in_err-way.ensures.1)))
-
-pub returns : goal.returns
-unfolding both_in
-returns c = λ i. both_from (c.in_ok-inputs.ensures i) (c.in_ok-options.ensures i) (c.in_ok-piece.ensures.read i) (c.in_ok-way.ensures i)
+returns-else-flag c =
+    gives_at _ _ _ _ (ap (λ soft. both_by soft (rows_found c.args.matches.now)) (sym c.if-flag.false ∙ c.flag.ensures)) c.plain_in.ensures

@@ -1,20 +1,14 @@
-use Rattle.command_line.specs.WrittenJob.{probe_in, probe_from}
-use Rattle.command_line.proofs.GivesLemmas.{gives_err, gives_then}
+use Rattle.std.proofs.Common.{sym, ap, ◌∙◌}
+use Rattle.command_line.specs.WrittenJob.{probe_by, probe_in, rows_found}
+use Rattle.command_line.proofs.GivesLemmas.{gives_at}
 use Rattle.command_line.proofs.reading.probe_in.Goals as goal
 
-pub returns-in_err-at : goal.returns-in_err-at
+pub returns-then-flag : goal.returns-then-flag
 unfolding probe_in
-returns-in_err-at c = gives_err _ _ _ _ _ c.in_err-at.ensures c.from_residual.ensures.1
+returns-then-flag c =
+    gives_at _ _ _ _ (ap (λ soft. probe_by soft (rows_found c.args.matches.now)) (sym c.if-flag.true ∙ c.flag.ensures)) c.probe_soft_in.ensures
 
-pub returns-in_err-script : goal.returns-in_err-script
+pub returns-else-flag : goal.returns-else-flag
 unfolding probe_in
-returns-in_err-script c = gives_then _ _ _ _ _ c.in_ok-at.ensures (gives_err _ _ _ _ _ c.in_err-script.ensures c.from_residual-in_err-script.ensures.1)
-
-pub returns-in_err-chain : goal.returns-in_err-chain
-unfolding probe_in
-returns-in_err-chain c = gives_then _ _ _ _ _ c.in_ok-at.ensures
-    (gives_then _ _ _ _ _ c.in_ok-script.ensures (gives_err _ _ _ _ _ c.in_err-chain.ensures c.from_residual-in_err-chain.ensures.1))
-
-pub returns : goal.returns
-unfolding probe_in
-returns c = λ i. probe_from (c.in_ok-at.ensures i) (c.in_ok-script.ensures i) (c.in_ok-chain.ensures i)
+returns-else-flag c =
+    gives_at _ _ _ _ (ap (λ soft. probe_by soft (rows_found c.args.matches.now)) (sym c.if-flag.false ∙ c.flag.ensures)) c.probe_plain_in.ensures

@@ -20,7 +20,7 @@ use Rattle.elf_load.proofs.Going.{
   going_start,
   keeps_carried,
 }
-use Rattle.elf_load.proofs.SoundLemmas.{memory_fits, rest_is_none, rest_of_elements, segment_is_done, segment_lies, segment_small}
+use Rattle.elf_load.proofs.SoundLemmas.{memory_fits, memory_most, rest_is_none, rest_of_elements, segment_is_done, segment_lies, segment_small}
 use Rattle.elf_load.proofs.loading.load_elf.Goals as goal
 
 -- ---- the segments
@@ -98,6 +98,12 @@ returns g c =
     (rest_is_none c.args.file.now c.as_slice-segments.result.now c.segments.segment-index c.segments-test.false) c.segments.invariant in
     record {
       size = c.bytes_in_memory.ensures ∙ ap memory_size c.as_slice-segments.ensures.value;
+      most = omega (
+        arith,
+        c.bytes_in_memory.ensures,
+        memory_most c.args.file.now c.args.elf.now c.as_slice-segments.result.now c.requires.read
+            c.as_slice-segments.ensures.value,
+      );
       stored = end_stored (elements c.args.file.now) _ _ ended;
       made = end_made (elements c.args.file.now) _ _ ended;
       left = tt;
@@ -126,7 +132,7 @@ returns-in_err-bus_store-clause-failed g c =
     (g.D.Dmi.seen c.bus_store.new.link) c.in_err-bus_store.field-0.0
     (going_next (elements c.args.file.now) _ _ _ c.element_at-element.result (g.D.Dmi.seen c.args.link.now) (g.D.Dmi.seen c.elements.link)
     c.element_at-element.ensures.next c.elements.invariant.going)
-    c.in_err-bus_store.ensures.failed)
+    c.bus_store.ensures.keeps.later c.in_err-bus_store.ensures.failed c.in_err-bus_store.ensures.left c.in_err-bus_store.ensures.cut)
 
 pub returns-in_err-bus_store-clause-cut : goal.returns-in_err-bus_store-clause-cut
 returns-in_err-bus_store-clause-cut g c =

@@ -1,4 +1,6 @@
-use Rattle.std.proofs.Common.{refl}
+use Rattle.std.proofs.Common.{IfSome, ap, refl, sym, subst}
+use Rattle.jtag_run.specs.Bounds.{StaysWhereFair, slack_of}
+use Rattle.jtag_run.proofs.BenchBounds.{stays_as_loaded}
 use Rattle.jtag_run.proofs.Countings.{counted_chained, counted_looped, counted_straight}
 use Rattle.jtag_run.proofs.generated.count.Goals as goal
 
@@ -26,3 +28,21 @@ returns-in-Ok-clause-counted g c =
     }) _ _ _ c.in-Looped.is
     (record { called = c.join.ensures.called; opened = c.in-Ok.ensures.opened; later = c.join.ensures.later; ends = c.join.ensures.ends })
     c.run_on_loop.ensures.sink_cause (rw c.requires.nothing at c.run_on_loop.ensures.ran)
+
+pub returns-in-Straight-clause-within : goal.returns-in-Straight-clause-within
+returns-in-Straight-clause-within g c =
+    subst (λ slack. IfSome c.args.bench.now (λ first. StaysWhereFair slack c.args.script.now first c.run_on_bench.new.bench)) (sym (ap slack_of c.in-Straight.is))
+    c.run_on_bench.ensures.within
+
+pub returns-in-Chained-clause-within : goal.returns-in-Chained-clause-within
+returns-in-Chained-clause-within g c =
+    subst (λ slack. IfSome c.args.bench.now (λ first. StaysWhereFair slack c.args.script.now first c.run_on_chain.new.bench)) (sym (ap slack_of c.in-Chained.is))
+    c.run_on_chain.ensures.within
+
+pub returns-in-Ok-clause-within : goal.returns-in-Ok-clause-within
+returns-in-Ok-clause-within g c =
+    subst (λ slack. IfSome c.args.bench.now (λ first. StaysWhereFair slack c.args.script.now first c.run_on_loop.new.bench)) (sym (ap slack_of c.in-Looped.is))
+    c.run_on_loop.ensures.within
+
+pub returns-in-Err-clause-within : goal.returns-in-Err-clause-within
+returns-in-Err-clause-within g c = stays_as_loaded (slack_of c.args.way) c.args.script.now c.args.bench.now c.requires.fresh

@@ -1,4 +1,3 @@
-use Rattle.std.proofs.Common.{◌≡◌, ◌++◌, [], append-nil}
 use Rattle.jtag_run.specs.LastLine.{asked_part, given_part}
 use Rattle.jtag_run.proofs.Puts.{first_failed, last_failed, two_put}
 use Rattle.jtag_run.proofs.Answered.{wrote_by}

@@ -1,4 +1,5 @@
-use Rattle.std.proofs.Common.{◌∙◌, arith}
+use Rattle.debug_model.proofs.RiseLemmas.{within_more, within_then}
+use Rattle.std.proofs.Common.{◌∙◌, arith, ◌+◌, ◌*◌}
 use Rattle.probe_access.proofs.ElementCalls.{hand_more, hand_refused, hand_stops, last_stops}
 use Rattle.probe_access.proofs.RegisterCalls.{err_failed}
 use Rattle.probe_access.proofs.blocks.load_elements.Goals as goal
@@ -15,6 +16,7 @@ elements-init g c = record {
   stands = c.in_ok-load_front.ensures.keeps.behind;
   later = c.load_front.ensures.keeps.later;
   fixed = c.load_front.ensures.keeps.fixed;
+  rises = within_more (74 * c.args.count) (74 * c.args.count + 8 * (c.len.result + 1)) _ _ c.load_front.ensures.rises (omega arith);
 }
 
 pub returns-in_err-handed-clause-failed : goal.returns-in_err-handed-clause-failed
@@ -34,12 +36,16 @@ pub elements-preserved : goal.elements-preserved
 elements-preserved g c = record {
   all = omega (arith, c.push.ensures.len, c.elements.invariant.all);
   most = omega (arith, c.elements-test.true);
-  on = hand_more c.args.size c.args.address c.args.count c.in_ok-handed.handed.value c.in_ok-handed.handed.refused c.elements.into.items c.push.new.self.items _ _ _
+  on = hand_more c.args.size c.args.address c.args.count c.in_ok-handed.handed.value c.in_ok-handed.handed.refused c.elements.into.items
+      c.push.new.self.items _ _ _
       c.push.ensures.items c.if-handed.false c.elements.invariant.on c.in_ok-handed.ensures.handed;
   callable = record { alive = c.in_ok-handed.ensures.keeps.behind.alive; link = c.in_ok-handed.ensures.keeps.behind.link };
   stands = c.in_ok-handed.ensures.keeps.behind;
   later = omega (arith, c.elements.invariant.later, c.hand_next.ensures.keeps.later);
   fixed = c.hand_next.ensures.keeps.fixed ∙ c.elements.invariant.fixed;
+  rises = within_then (74 * c.args.count + 8 * c.elements.number) 8 (74 * c.args.count + 8 * (c.elements.number + 1)) _ (g.D.Dmi.seen c.elements.link) _
+      c.elements.invariant.rises c.hand_next.ensures.rises
+      c.elements.invariant.fixed (omega arith);
 }
 
 pub returns-in_err-last-clause-failed : goal.returns-in_err-last-clause-failed
@@ -48,3 +54,31 @@ returns-in_err-last-clause-failed g c =
     (last_stops c.args.size c.args.address c.args.count _ _ _ c.elements.into.items _ _ _ c.in_err-last.field-0.0
     (c.elements.invariant.all ∙ omega (arith, c.elements-test.false, c.elements.invariant.most)) c.elements.invariant.on
     c.elements.invariant.later c.read_register.ensures.keeps.later c.in_err-last.ensures.failed)
+
+pub returns-in_err-load_front-clause-rises : goal.returns-in_err-load_front-clause-rises
+returns-in_err-load_front-clause-rises g c =
+    within_more (74 * c.args.count) (82 * c.args.count + 16) _ _ c.load_front.ensures.rises (omega arith)
+
+pub returns-in_err-handed-clause-rises : goal.returns-in_err-handed-clause-rises
+returns-in_err-handed-clause-rises g c =
+    within_then (74 * c.args.count + 8 * c.elements.number) 8 (82 * c.args.count + 16) _ (g.D.Dmi.seen c.elements.link) _ c.elements.invariant.rises
+    c.hand_next.ensures.rises
+    c.elements.invariant.fixed (omega (arith, c.elements-test.true))
+
+pub returns-then-handed-clause-rises : goal.returns-then-handed-clause-rises
+returns-then-handed-clause-rises g c =
+    within_then (74 * c.args.count + 8 * c.elements.number) 8 (82 * c.args.count + 16) _ (g.D.Dmi.seen c.elements.link) _ c.elements.invariant.rises
+    c.hand_next.ensures.rises
+    c.elements.invariant.fixed (omega (arith, c.elements-test.true))
+
+pub returns-in_err-last-clause-rises : goal.returns-in_err-last-clause-rises
+returns-in_err-last-clause-rises g c =
+    within_then (74 * c.args.count + 8 * c.elements.number) 16 (82 * c.args.count + 16) _ (g.D.Dmi.seen c.elements.link) _ c.elements.invariant.rises
+    c.read_register.ensures.rises
+    c.elements.invariant.fixed (omega (arith, c.elements.invariant.most))
+
+pub returns-clause-rises : goal.returns-clause-rises
+returns-clause-rises g c =
+    within_then (74 * c.args.count + 8 * c.elements.number) 16 (82 * c.args.count + 16) _ (g.D.Dmi.seen c.elements.link) _ c.elements.invariant.rises
+    c.read_register.ensures.rises
+    c.elements.invariant.fixed (omega (arith, c.elements.invariant.most))

@@ -1,4 +1,5 @@
-use Rattle.std.proofs.Common.{arith}
+use Rattle.debug_model.proofs.RiseLemmas.{within_more, within_then}
+use Rattle.std.proofs.Common.{arith, ◌∙◌, ◌+◌, ◌*◌}
 use Rattle.probe_access.specs.ElementRuns.{LoadsFailed, LoadsInside}
 use Rattle.probe_access.specs.ElementRuns.LoadRunsFailed.{in_save, saved}
 use Rattle.probe_access.proofs.AroundLemmas.{saved_gave_up, saved_restore}
@@ -30,3 +31,31 @@ returns-in-Err-clause-failed g c =
     (loads_counted c.args.size c.args.address c.args.count c.load_elements.new.into.items _ _ _ _ _ c.in-Err.fault c.save_scratch.ensures.keeps.later
     c.load_elements.ensures.keeps.later c.in-Err.ensures.failed)
     (omega (arith, c.save_scratch.ensures.keeps.later, c.load_elements.ensures.keeps.later)) c.give_up.ensures.later c.give_up.ensures.gave_up)
+
+pub returns-in_err-scratch-clause-rises : goal.returns-in_err-scratch-clause-rises
+returns-in_err-scratch-clause-rises g c =
+    within_more 32 (82 * c.args.count + 64) _ _ c.save_scratch.ensures.rises (omega arith)
+
+pub returns-in_err-put_back-in-Ok-clause-rises : goal.returns-in_err-put_back-in-Ok-clause-rises
+returns-in_err-put_back-in-Ok-clause-rises g c =
+    within_then (82 * c.args.count + 48) 16 (82 * c.args.count + 64) _ (g.D.Dmi.seen c.load_elements.new.link) _ (within_then 32 (82 * c.args.count + 16) (82
+    * c.args.count + 48) _ (g.D.Dmi.seen c.save_scratch.new.link) _ c.save_scratch.ensures.rises c.load_elements.ensures.rises
+    c.save_scratch.ensures.keeps.fixed (omega arith))
+    c.put_back.ensures.rises
+    (c.load_elements.ensures.keeps.fixed ∙ c.save_scratch.ensures.keeps.fixed) (omega arith)
+
+pub returns-in_ok-put_back-in-Ok-clause-rises : goal.returns-in_ok-put_back-in-Ok-clause-rises
+returns-in_ok-put_back-in-Ok-clause-rises g c =
+    within_then (82 * c.args.count + 48) 16 (82 * c.args.count + 64) _ (g.D.Dmi.seen c.load_elements.new.link) _ (within_then 32 (82 * c.args.count + 16) (82
+    * c.args.count + 48) _ (g.D.Dmi.seen c.save_scratch.new.link) _ c.save_scratch.ensures.rises c.load_elements.ensures.rises
+    c.save_scratch.ensures.keeps.fixed (omega arith))
+    c.put_back.ensures.rises
+    (c.load_elements.ensures.keeps.fixed ∙ c.save_scratch.ensures.keeps.fixed) (omega arith)
+
+pub returns-in-Err-clause-rises : goal.returns-in-Err-clause-rises
+returns-in-Err-clause-rises g c =
+    within_then (82 * c.args.count + 48) 16 (82 * c.args.count + 64) _ (g.D.Dmi.seen c.load_elements.new.link) _ (within_then 32 (82 * c.args.count + 16) (82
+    * c.args.count + 48) _ (g.D.Dmi.seen c.save_scratch.new.link) _ c.save_scratch.ensures.rises c.load_elements.ensures.rises
+    c.save_scratch.ensures.keeps.fixed (omega arith))
+    c.give_up.ensures.rises
+    (c.load_elements.ensures.keeps.fixed ∙ c.save_scratch.ensures.keeps.fixed) (omega arith)

@@ -1,4 +1,5 @@
-use Rattle.std.proofs.Common.{◌∙◌, arith}
+use Rattle.debug_model.proofs.RiseLemmas.{within_more, within_then}
+use Rattle.std.proofs.Common.{◌∙◌, arith, ◌+◌, ◌*◌}
 use Rattle.probe_access.specs.ElementRuns.StoresFailed.{in_next}
 use Rattle.probe_access.specs.ElementRuns.StoresOn.{next}
 use Rattle.probe_access.proofs.ElementCalls.{run_as}
@@ -12,6 +13,7 @@ elements-init g c = record {
   stands = c.in_ok-done.ensures.keeps.behind;
   later = c.store_front.ensures.keeps.later;
   fixed = c.store_front.ensures.keeps.fixed;
+  rises = within_more (57 * c.args.count + 256) ((57 * c.args.count + 256) + 6 * c.in_ok-done.done) _ _ c.store_front.ensures.rises (omega arith);
 }
 
 pub returns-in_err-next_element-clause-failed : goal.returns-in_err-next_element-clause-failed
@@ -28,4 +30,25 @@ elements-preserved g c = record {
   stands = c.in_ok-next_element.ensures.keeps.behind;
   later = omega (arith, c.elements.invariant.later, c.next_element.ensures.keeps.later);
   fixed = c.next_element.ensures.keeps.fixed ∙ c.elements.invariant.fixed;
+  rises = within_then ((57 * c.args.count + 256) + 6 * c.elements.number) 6 ((57 * c.args.count + 256) + 6 * (c.elements.number + 1)) _ (g.D.Dmi.seen
+      c.elements.link) _ c.elements.invariant.rises c.next_element.ensures.rises
+      c.elements.invariant.fixed (omega arith);
 }
+
+pub returns-in_err-done-clause-rises : goal.returns-in_err-done-clause-rises
+returns-in_err-done-clause-rises g c =
+    within_more (57 * c.args.count + 256) (63 * c.args.count + 256) _ _ c.store_front.ensures.rises (omega arith)
+
+pub returns-in_err-next_element-clause-rises : goal.returns-in_err-next_element-clause-rises
+returns-in_err-next_element-clause-rises g c =
+    within_then ((57 * c.args.count + 256) + 6 * c.elements.number) 6 (63 * c.args.count + 256) _ (g.D.Dmi.seen c.elements.link) _ c.elements.invariant.rises
+    c.next_element.ensures.rises
+    c.elements.invariant.fixed (omega (arith, c.elements-test.true))
+
+pub returns-clause-rises : goal.returns-clause-rises
+returns-clause-rises g c =
+    within_more ((57 * c.args.count + 256) + 6 * c.elements.number) (63 * c.args.count + 256) _ _ c.elements.invariant.rises (omega (
+      arith,
+      c.elements.auto.number-end,
+      c.in_ok-done.ensures.most,
+    ))

@@ -1,5 +1,6 @@
+use Rattle.debug_model.specs.Rises.{Within}
 use Rattle.probe_run.specs.Told.{told}
-use Rattle.std.proofs.Common.{◌≡◌, ◌≤◌}
+use Rattle.std.proofs.Common.{◌≡◌, ◌≤◌, ◌*◌, ◌+◌}
 use Rattle.debug_model.specs.Kept.{CanCall, Stands}
 use Rattle.probe_access.specs.ElementRuns.{StoresOn}
 use Rattle.probe_access.proofs.blocks.store_elements.Given as goal
@@ -11,4 +12,5 @@ invariant-elements g l = record {
   stands : Stands (g.D.Dmi.seen l.link);
   later : (g.D.Dmi.seen l.fn.link).fault_count ≤ (g.D.Dmi.seen l.link).fault_count;
   fixed : (g.D.Dmi.seen l.link).fixed ≡ (g.D.Dmi.seen l.fn.link).fixed;
+  rises : Within ((57 * l.fn.count + 256) + 6 * l.number) (g.D.Dmi.seen l.fn.link) (g.D.Dmi.seen l.link);
 }

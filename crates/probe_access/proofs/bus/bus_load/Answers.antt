@@ -1,6 +1,7 @@
+use Rattle.debug_model.proofs.RiseLemmas.{within_then}
 use Rattle.probe_run.specs.Told.{told}
 use Rattle.probe_access.proofs.BusCutClauses.{bus_load_cut}
-use Rattle.std.proofs.Common.{arith, refl}
+use Rattle.std.proofs.Common.{arith, refl, ◌∙◌}
 use Rattle.probe_access.specs.BusRuns.{BusFetching}
 use Rattle.probe_access.specs.BusRuns.BusLoadFailed.{in_start, in_end, in_fetch}
 use Rattle.probe_access.proofs.BusClauses.{bus_load_err, bus_load_ok}
@@ -90,3 +91,15 @@ returns-in_err-value-clause-cut g c =
     (broke_counted BusFetching (g.D.Dmi.seen c.args.link.now).fault_count (g.D.Dmi.seen c.finish.new.link).fault_count
     (g.D.Dmi.seen c.fetch.new.link).fault_count (told (g.D.Dmi.seen c.finish.new.link)) _ c.in_err-value.field-0.0
     (omega (arith, c.start_read.ensures.keeps.later, c.finish.ensures.keeps.later)) c.fetch.ensures.keeps.later c.in_err-value.ensures.broke)))
+
+pub returns-in_err-value-clause-rises : goal.returns-in_err-value-clause-rises
+returns-in_err-value-clause-rises g c =
+    within_then 5 2 7 _ (g.D.Dmi.seen c.finish.new.link) _ (within_then 3 2 5 _ (g.D.Dmi.seen c.start_read.new.link) _ c.start_read.ensures.rises c.finish.ensures.rises
+    c.start_read.ensures.keeps.fixed (omega arith)) c.fetch.ensures.rises
+    (c.finish.ensures.keeps.fixed ∙ c.start_read.ensures.keeps.fixed) (omega arith)
+
+pub returns-clause-rises : goal.returns-clause-rises
+returns-clause-rises g c =
+    within_then 5 2 7 _ (g.D.Dmi.seen c.finish.new.link) _ (within_then 3 2 5 _ (g.D.Dmi.seen c.start_read.new.link) _ c.start_read.ensures.rises c.finish.ensures.rises
+    c.start_read.ensures.keeps.fixed (omega arith)) c.fetch.ensures.rises
+    (c.finish.ensures.keeps.fixed ∙ c.start_read.ensures.keeps.fixed) (omega arith)

@@ -1,3 +1,4 @@
+use Rattle.debug_model.proofs.RiseLemmas.{within_more as rises_more, within_then as rises_then}
 use Rattle.std.proofs.Common.{◌≢◌, ◌∙◌, ◌≤◌, ◌<◌, ◌+◌, ◌-◌, ◌*◌, ℕ, List, length, arith}
 use Rattle.probe_run.specs.Told.{told}
 use Rattle.probe_access.specs.BusBlockRuns.{BusLoads}
@@ -91,3 +92,23 @@ returns-in_err-load_awaited-clause-few_failed g c =
     (awaited_loads_failed c.args.size c.args.address c.args.count _ _ c.load_runs.new.into.items c.load_awaited.new.into.items
     (told (g.D.Dmi.seen c.load_runs.new.link)) (told (g.D.Dmi.seen c.load_awaited.new.link)) c.in_err-load_awaited.field-0.0
     c.in_err-load_awaited.ensures.failed))
+
+pub returns-in_err-load_runs-clause-rises : goal.returns-in_err-load_runs-clause-rises
+returns-in_err-load_runs-clause-rises g c =
+    rises_more (2 * c.args.count + 22) (6 * c.args.count + 26) _ _ c.load_runs.ensures.rises (omega arith)
+
+pub returns-then-len-count-clause-rises : goal.returns-then-len-count-clause-rises
+returns-then-len-count-clause-rises g c =
+    rises_more (2 * c.args.count + 22) (6 * c.args.count + 26) _ _ c.load_runs.ensures.rises (omega arith)
+
+pub returns-in_err-load_awaited-clause-rises : goal.returns-in_err-load_awaited-clause-rises
+returns-in_err-load_awaited-clause-rises g c =
+    rises_then (2 * c.args.count + 22) (4 * c.args.count + 4) (6 * c.args.count + 26) _ (g.D.Dmi.seen c.load_runs.new.link) _ c.load_runs.ensures.rises
+    c.load_awaited.ensures.rises
+    c.load_runs.ensures.keeps.fixed (omega arith)
+
+pub returns-clause-rises : goal.returns-clause-rises
+returns-clause-rises g c =
+    rises_then (2 * c.args.count + 22) (4 * c.args.count + 4) (6 * c.args.count + 26) _ (g.D.Dmi.seen c.load_runs.new.link) _ c.load_runs.ensures.rises
+    c.load_awaited.ensures.rises
+    c.load_runs.ensures.keeps.fixed (omega arith)

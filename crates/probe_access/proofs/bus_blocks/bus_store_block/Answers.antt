@@ -1,205 +1,93 @@
-use Rattle.std.proofs.Common.{◌≢◌, ◌≤◌, ◌<◌, ◌+◌, ◌-◌, ◌*◌, ℕ, subst, arith}
+use Rattle.debug_model.proofs.RiseLemmas.{within_more as rises_more}
+use Rattle.std.proofs.Common.{◌+◌, ◌*◌, subst, arith}
+use Rattle.debug_model.specs.Rises.{Within}
 use Rattle.debug_model.specs.Scan.{WhereTold}
 use Rattle.probe_run.specs.Told.{told}
-use Rattle.probe_access.specs.BusBlockRuns.{BusStores}
-use Rattle.probe_access.specs.BusBlocks.{BusBlockStoredAt}
-use Rattle.probe_access.proofs.BusStoreAwaitFaults.{await_causes, await_cut, await_left, await_ready, await_refused}
-use Rattle.probe_access.proofs.BusStoreAwaitTold.{stores_awaited}
-use Rattle.probe_access.proofs.BusStoreCauses.{fell_causes, fell_cut, fell_left, fell_ready, fell_refused, stores_heard}
-use Rattle.probe_access.proofs.BusStoreOutcomes.{stores_few, stores_told}
-use Rattle.probe_access.proofs.BusSpent.{
-  awaited_stores_failed,
-  awaited_stores_spent,
-  run_stores_spent,
-  stores_fell_spent,
-  unbroken_behind,
-  unbroken_more,
-  within_more,
-  within_then,
-}
+use Rattle.debug_model.specs.Addresses.{sbcs_address}
+use Rattle.probe_access.specs.Accesses.{IfMemory}
+use Rattle.probe_access.specs.BlockRises.{bus_store_rises}
+use Rattle.probe_access.specs.BusBlockRuns.{BusValueStores, BusValueStoresRefused}
+use Rattle.probe_access.specs.BusBlocks.{BusValuesStoreCut, BusValuesStoreLeft, BusValuesStoredAt}
+use Rattle.probe_access.specs.BusStoreStreams.{data_words}
+use Rattle.probe_access.specs.Cuts.{IfCut, Leaves}
+use Rattle.probe_access.specs.Spent.{DidAtMost, IfUnbroken}
+use Rattle.probe_access.proofs.BusSameValues.{as_copies, cut_same, left_same, same_words, stored_same}
+use Rattle.probe_access.proofs.BusSpent.{unbroken_more, within_more}
 use Rattle.probe_access.proofs.RegisterCalls.{err_failed}
 use Rattle.probe_access.proofs.bus_blocks.bus_store_block.Goals as goal
 
-pub returns-in_err-done-clause-refused : goal.returns-in_err-done-clause-refused
-returns-in_err-done-clause-refused g c =
-    err_failed c.from_residual.result c.in_err-done.field-0.0 _ c.from_residual.ensures.1
-    (fell_refused c.args.size c.args.address c.args.value c.args.count _ _ (told (g.D.Dmi.seen c.args.link.now))
-    (told (g.D.Dmi.seen c.store_run.new.link)) c.in_err-done.field-0.0 c.in_err-done.ensures.fell)
+pub returns-in_err-bus_store_values-clause-refused : goal.returns-in_err-bus_store_values-clause-refused
+returns-in_err-bus_store_values-clause-refused g c =
+    err_failed c.from_residual.result c.in_err-bus_store_values.field-0.0 _ c.from_residual.ensures.1
+    (as_copies (λ xs n. IfMemory (BusValueStoresRefused c.args.size c.args.address xs n (told (g.D.Dmi.seen c.args.link.now)) (told
+    (g.D.Dmi.seen c.bus_store_values.new.link))) c.in_err-bus_store_values.field-0.0) c.args.count c.args.value
+    c.requires.room c.in_err-bus_store_values.ensures.refused)
 
-pub returns-in_err-done-clause-left : goal.returns-in_err-done-clause-left
-returns-in_err-done-clause-left g c =
-    err_failed c.from_residual.result c.in_err-done.field-0.0 _ c.from_residual.ensures.1
-    (fell_left c.args.size c.args.address c.args.value c.args.count _ _ _ _ (told (g.D.Dmi.seen c.store_run.new.link))
-    c.in_err-done.field-0.0 c.requires.ready c.requires.aligned c.requires.ends c.requires.room c.requires.some c.in_err-done.ensures.fell)
+pub returns-in_err-bus_store_values-clause-few_failed : goal.returns-in_err-bus_store_values-clause-few_failed
+returns-in_err-bus_store_values-clause-few_failed g c =
+    err_failed c.from_residual.result c.in_err-bus_store_values.field-0.0 _ c.from_residual.ensures.1
+    (unbroken_more (2 * c.args.count + 14) (3 * c.args.count + 24) (told (g.D.Dmi.seen c.args.link.now)) (told
+    (g.D.Dmi.seen c.bus_store_values.new.link)) c.in_err-bus_store_values.field-0.0
+    (omega (arith, c.requires.some))
+    (subst (λ n. IfUnbroken (DidAtMost sbcs_address (2 * n + 14) (told (g.D.Dmi.seen c.args.link.now)) (told
+    (g.D.Dmi.seen c.bus_store_values.new.link))) c.in_err-bus_store_values.field-0.0)
+    (same_words c.args.count c.args.value)
+    (as_copies (λ xs n. IfUnbroken (DidAtMost sbcs_address (2 * data_words xs + 14) (told (g.D.Dmi.seen c.args.link.now)) (told
+    (g.D.Dmi.seen c.bus_store_values.new.link))) c.in_err-bus_store_values.field-0.0) c.args.count
+    c.args.value c.requires.room c.in_err-bus_store_values.ensures.few_failed)))
 
-pub returns-in_err-done-clause-causes : goal.returns-in_err-done-clause-causes
-returns-in_err-done-clause-causes g c =
-    err_failed c.from_residual.result c.in_err-done.field-0.0 _ c.from_residual.ensures.1
-    (fell_causes c.args.size c.args.address c.args.value c.args.count _ _ (told (g.D.Dmi.seen c.args.link.now))
-    (told (g.D.Dmi.seen c.store_run.new.link)) c.in_err-done.field-0.0 c.store_run.ensures.keeps.later c.in_err-done.ensures.fell)
+pub returns-in_err-bus_store_values-clause-left : goal.returns-in_err-bus_store_values-clause-left
+returns-in_err-bus_store_values-clause-left g c =
+    err_failed c.from_residual.result c.in_err-bus_store_values.field-0.0 _ c.from_residual.ensures.1
+    (left_same c.args.size c.args.address c.args.value c.args.count _ _ c.in_err-bus_store_values.field-0.0
+    (as_copies (λ xs n. BusValuesStoreLeft c.args.size c.args.address xs n (g.D.Dmi.seen c.args.link.now).far
+    (g.D.Dmi.seen c.bus_store_values.new.link).far c.in_err-bus_store_values.field-0.0) c.args.count c.args.value c.requires.room
+    c.in_err-bus_store_values.ensures.left))
 
-pub returns-in_err-done-clause-cut : goal.returns-in_err-done-clause-cut
-returns-in_err-done-clause-cut g c =
-    err_failed c.from_residual.result c.in_err-done.field-0.0 _ c.from_residual.ensures.1
-    (fell_cut c.args.size c.args.address c.args.value c.args.count _ _ _ _ (told (g.D.Dmi.seen c.store_run.new.link))
-    c.in_err-done.field-0.0 c.requires.ready c.requires.aligned c.requires.ends c.requires.some c.in_err-done.ensures.fell)
+pub returns-in_err-bus_store_values-clause-cut : goal.returns-in_err-bus_store_values-clause-cut
+returns-in_err-bus_store_values-clause-cut g c =
+    err_failed c.from_residual.result c.in_err-bus_store_values.field-0.0 _ c.from_residual.ensures.1
+    (cut_same c.args.size c.args.address c.args.value c.args.count _ _ c.in_err-bus_store_values.field-0.0
+    (as_copies (λ xs n. IfCut (Leaves (BusValuesStoreCut c.args.size c.args.address xs n) (g.D.Dmi.seen c.args.link.now).far
+    (g.D.Dmi.seen c.bus_store_values.new.link).far) c.in_err-bus_store_values.field-0.0) c.args.count c.args.value
+    c.requires.room c.in_err-bus_store_values.ensures.cut))
 
-pub returns-in_err-done-clause-ready_again : goal.returns-in_err-done-clause-ready_again
-returns-in_err-done-clause-ready_again g c =
-    err_failed c.from_residual.result c.in_err-done.field-0.0 _ c.from_residual.ensures.1
-    (fell_ready c.args.size c.args.address c.args.value c.args.count _ _ _ _ (told (g.D.Dmi.seen c.store_run.new.link))
-    c.in_err-done.field-0.0 c.requires.ready c.requires.aligned c.requires.ends c.requires.room c.requires.some c.in_err-done.ensures.fell)
-
-below_count : (done count : ℕ) → done ≤ count → done ≢ count → done < count
-below_count done count within other = omega (arith, within, other)
-
-pub returns-then-done-count-clause-stored : goal.returns-then-done-count-clause-stored
-returns-then-done-count-clause-stored g c =
-    subst (λ n. WhereTold (BusBlockStoredAt c.args.size c.args.address c.args.value n) (g.D.Dmi.seen c.args.link.now).far
-    (g.D.Dmi.seen c.store_run.new.link).far) c.if-done-count.true
-    (stores_told c.args.size c.args.address c.args.value c.args.count c.in_ok-done.done _ _ (told (g.D.Dmi.seen c.store_run.new.link))
-    c.requires.ready c.requires.aligned c.requires.ends c.requires.room c.requires.some c.in_ok-done.ensures.stores).stored
-
-pub returns-then-done-count-clause-stores : goal.returns-then-done-count-clause-stores
-returns-then-done-count-clause-stores g c =
-    subst (λ n. BusStores c.args.size c.args.address c.args.value (told (g.D.Dmi.seen c.args.link.now)) n (told (g.D.Dmi.seen c.store_run.new.link)))
-    c.if-done-count.true
-    (stores_heard c.args.size c.args.address c.args.value c.args.count c.in_ok-done.done (told (g.D.Dmi.seen c.args.link.now))
-    (told (g.D.Dmi.seen c.store_run.new.link)) c.in_ok-done.ensures.stores)
-
-pub returns-then-done-count-clause-ready : goal.returns-then-done-count-clause-ready
-returns-then-done-count-clause-ready g c =
-    (stores_told c.args.size c.args.address c.args.value c.args.count c.in_ok-done.done _ _ (told (g.D.Dmi.seen c.store_run.new.link))
-    c.requires.ready c.requires.aligned c.requires.ends c.requires.room c.requires.some c.in_ok-done.ensures.stores).ready
+pub returns-in_err-bus_store_values-clause-rises : goal.returns-in_err-bus_store_values-clause-rises
+returns-in_err-bus_store_values-clause-rises g c =
+    rises_more (2 * (c.args.count + c.args.count) + 14) (bus_store_rises c.args.count) _ _
+    (subst (λ n. Within (2 * (n + c.args.count) + 14) (g.D.Dmi.seen c.args.link.now) (g.D.Dmi.seen c.bus_store_values.new.link))
+    (same_words c.args.count c.args.value)
+    (as_copies (λ xs n. Within (2 * (data_words xs + n) + 14) (g.D.Dmi.seen c.args.link.now)
+    (g.D.Dmi.seen c.bus_store_values.new.link)) c.args.count c.args.value c.requires.room c.bus_store_values.ensures.rises))
+    (omega arith)
 
 pub returns-clause-stored : goal.returns-clause-stored
 returns-clause-stored g c =
-    (stores_awaited c.args.size c.args.address c.args.value c.args.count c.in_ok-done.done _ (told (g.D.Dmi.seen c.store_run.new.link))
-    (told (g.D.Dmi.seen c.store_awaited.new.link))
-    (stores_told c.args.size c.args.address c.args.value c.args.count c.in_ok-done.done _ _ (told (g.D.Dmi.seen c.store_run.new.link))
-    c.requires.ready c.requires.aligned c.requires.ends c.requires.room c.requires.some c.in_ok-done.ensures.stores).stored
-    (stores_told c.args.size c.args.address c.args.value c.args.count c.in_ok-done.done _ _ (told (g.D.Dmi.seen c.store_run.new.link))
-    c.requires.ready c.requires.aligned c.requires.ends c.requires.room c.requires.some c.in_ok-done.ensures.stores).ready
-    c.requires.aligned c.requires.ends
-    (below_count c.in_ok-done.done c.args.count
-    (stores_few c.args.size c.args.address c.args.value c.args.count c.in_ok-done.done (told (g.D.Dmi.seen c.args.link.now))
-    (told (g.D.Dmi.seen c.store_run.new.link)) c.in_ok-done.ensures.stores) c.if-done-count.false)
-    c.in_ok-store_awaited.ensures.stored).stored
-
-pub returns-clause-ready : goal.returns-clause-ready
-returns-clause-ready g c =
-    (stores_awaited c.args.size c.args.address c.args.value c.args.count c.in_ok-done.done _ (told (g.D.Dmi.seen c.store_run.new.link))
-    (told (g.D.Dmi.seen c.store_awaited.new.link))
-    (stores_told c.args.size c.args.address c.args.value c.args.count c.in_ok-done.done _ _ (told (g.D.Dmi.seen c.store_run.new.link))
-    c.requires.ready c.requires.aligned c.requires.ends c.requires.room c.requires.some c.in_ok-done.ensures.stores).stored
-    (stores_told c.args.size c.args.address c.args.value c.args.count c.in_ok-done.done _ _ (told (g.D.Dmi.seen c.store_run.new.link))
-    c.requires.ready c.requires.aligned c.requires.ends c.requires.room c.requires.some c.in_ok-done.ensures.stores).ready
-    c.requires.aligned c.requires.ends
-    (below_count c.in_ok-done.done c.args.count
-    (stores_few c.args.size c.args.address c.args.value c.args.count c.in_ok-done.done (told (g.D.Dmi.seen c.args.link.now))
-    (told (g.D.Dmi.seen c.store_run.new.link)) c.in_ok-done.ensures.stores) c.if-done-count.false)
-    c.in_ok-store_awaited.ensures.stored).ready
+    stored_same c.args.size c.args.address c.args.value c.args.count _ _
+    (as_copies (λ xs n. WhereTold (BusValuesStoredAt c.args.size c.args.address xs n) (g.D.Dmi.seen c.args.link.now).far
+    (g.D.Dmi.seen c.bus_store_values.new.link).far) c.args.count c.args.value c.requires.room
+    c.in_ok-bus_store_values.ensures.stored)
 
 pub returns-clause-stores : goal.returns-clause-stores
 returns-clause-stores g c =
-    BusStores.awaited c.in_ok-done.done c.args.count (told (g.D.Dmi.seen c.store_run.new.link)) _
-    (stores_heard c.args.size c.args.address c.args.value c.args.count c.in_ok-done.done (told (g.D.Dmi.seen c.args.link.now))
-    (told (g.D.Dmi.seen c.store_run.new.link)) c.in_ok-done.ensures.stores)
-    c.in_ok-store_awaited.ensures.stored
-
-pub returns-in_err-store_awaited-clause-refused : goal.returns-in_err-store_awaited-clause-refused
-returns-in_err-store_awaited-clause-refused g c =
-    err_failed c.from_residual-in_err-store_awaited.result c.in_err-store_awaited.field-0.0 _ c.from_residual-in_err-store_awaited.ensures.1
-    (await_refused c.args.size c.args.address c.args.value c.in_ok-done.done c.args.count _ _ (told (g.D.Dmi.seen c.args.link.now))
-    (told (g.D.Dmi.seen c.store_run.new.link)) (told (g.D.Dmi.seen c.store_awaited.new.link)) c.in_err-store_awaited.field-0.0
-    (stores_heard c.args.size c.args.address c.args.value c.args.count c.in_ok-done.done (told (g.D.Dmi.seen c.args.link.now))
-    (told (g.D.Dmi.seen c.store_run.new.link)) c.in_ok-done.ensures.stores)
-    c.in_err-store_awaited.ensures.failed)
-
-pub returns-in_err-store_awaited-clause-causes : goal.returns-in_err-store_awaited-clause-causes
-returns-in_err-store_awaited-clause-causes g c =
-    err_failed c.from_residual-in_err-store_awaited.result c.in_err-store_awaited.field-0.0 _ c.from_residual-in_err-store_awaited.ensures.1
-    (await_causes c.args.size c.args.address c.args.value c.in_ok-done.done c.args.count _ _ _ (told (g.D.Dmi.seen c.args.link.now))
-    (told (g.D.Dmi.seen c.store_run.new.link)) (told (g.D.Dmi.seen c.store_awaited.new.link)) c.in_err-store_awaited.field-0.0
-    c.store_run.ensures.keeps.later c.store_awaited.ensures.keeps.later
-    (stores_heard c.args.size c.args.address c.args.value c.args.count c.in_ok-done.done (told (g.D.Dmi.seen c.args.link.now))
-    (told (g.D.Dmi.seen c.store_run.new.link)) c.in_ok-done.ensures.stores)
-    c.in_err-store_awaited.ensures.failed)
-
-pub returns-in_err-store_awaited-clause-left : goal.returns-in_err-store_awaited-clause-left
-returns-in_err-store_awaited-clause-left g c =
-    err_failed c.from_residual-in_err-store_awaited.result c.in_err-store_awaited.field-0.0 _ c.from_residual-in_err-store_awaited.ensures.1
-    (await_left c.args.size c.args.address c.args.value c.in_ok-done.done c.args.count _ _ _ (told (g.D.Dmi.seen c.store_run.new.link))
-    (told (g.D.Dmi.seen c.store_awaited.new.link)) c.in_err-store_awaited.field-0.0
-    (stores_told c.args.size c.args.address c.args.value c.args.count c.in_ok-done.done _ _ (told (g.D.Dmi.seen c.store_run.new.link))
-    c.requires.ready c.requires.aligned c.requires.ends c.requires.room c.requires.some c.in_ok-done.ensures.stores).stored
-    (stores_told c.args.size c.args.address c.args.value c.args.count c.in_ok-done.done _ _ (told (g.D.Dmi.seen c.store_run.new.link))
-    c.requires.ready c.requires.aligned c.requires.ends c.requires.room c.requires.some c.in_ok-done.ensures.stores).ready
-    c.requires.aligned c.requires.ends
-    (below_count c.in_ok-done.done c.args.count
-    (stores_few c.args.size c.args.address c.args.value c.args.count c.in_ok-done.done (told (g.D.Dmi.seen c.args.link.now))
-    (told (g.D.Dmi.seen c.store_run.new.link)) c.in_ok-done.ensures.stores) c.if-done-count.false)
-    c.in_err-store_awaited.ensures.failed)
-
-pub returns-in_err-store_awaited-clause-cut : goal.returns-in_err-store_awaited-clause-cut
-returns-in_err-store_awaited-clause-cut g c =
-    err_failed c.from_residual-in_err-store_awaited.result c.in_err-store_awaited.field-0.0 _ c.from_residual-in_err-store_awaited.ensures.1
-    (await_cut c.args.size c.args.address c.args.value c.in_ok-done.done c.args.count _ _ _ (told (g.D.Dmi.seen c.store_run.new.link))
-    (told (g.D.Dmi.seen c.store_awaited.new.link)) c.in_err-store_awaited.field-0.0
-    (stores_told c.args.size c.args.address c.args.value c.args.count c.in_ok-done.done _ _ (told (g.D.Dmi.seen c.store_run.new.link))
-    c.requires.ready c.requires.aligned c.requires.ends c.requires.room c.requires.some c.in_ok-done.ensures.stores).stored
-    (stores_told c.args.size c.args.address c.args.value c.args.count c.in_ok-done.done _ _ (told (g.D.Dmi.seen c.store_run.new.link))
-    c.requires.ready c.requires.aligned c.requires.ends c.requires.room c.requires.some c.in_ok-done.ensures.stores).ready
-    c.requires.aligned c.requires.ends
-    (below_count c.in_ok-done.done c.args.count
-    (stores_few c.args.size c.args.address c.args.value c.args.count c.in_ok-done.done (told (g.D.Dmi.seen c.args.link.now))
-    (told (g.D.Dmi.seen c.store_run.new.link)) c.in_ok-done.ensures.stores) c.if-done-count.false)
-    c.in_err-store_awaited.ensures.failed)
-
-pub returns-in_err-store_awaited-clause-ready_again : goal.returns-in_err-store_awaited-clause-ready_again
-returns-in_err-store_awaited-clause-ready_again g c =
-    err_failed c.from_residual-in_err-store_awaited.result c.in_err-store_awaited.field-0.0 _ c.from_residual-in_err-store_awaited.ensures.1
-    (await_ready c.args.size c.args.address c.args.value c.in_ok-done.done c.args.count _ _ _ (told (g.D.Dmi.seen c.store_run.new.link))
-    (told (g.D.Dmi.seen c.store_awaited.new.link)) c.in_err-store_awaited.field-0.0
-    (stores_told c.args.size c.args.address c.args.value c.args.count c.in_ok-done.done _ _ (told (g.D.Dmi.seen c.store_run.new.link))
-    c.requires.ready c.requires.aligned c.requires.ends c.requires.room c.requires.some c.in_ok-done.ensures.stores).stored
-    (stores_told c.args.size c.args.address c.args.value c.args.count c.in_ok-done.done _ _ (told (g.D.Dmi.seen c.store_run.new.link))
-    c.requires.ready c.requires.aligned c.requires.ends c.requires.room c.requires.some c.in_ok-done.ensures.stores).ready
-    c.requires.aligned c.requires.ends
-    (below_count c.in_ok-done.done c.args.count
-    (stores_few c.args.size c.args.address c.args.value c.args.count c.in_ok-done.done (told (g.D.Dmi.seen c.args.link.now))
-    (told (g.D.Dmi.seen c.store_run.new.link)) c.in_ok-done.ensures.stores) c.if-done-count.false)
-    c.in_err-store_awaited.ensures.failed)
-
-pub returns-in_err-done-clause-few_failed : goal.returns-in_err-done-clause-few_failed
-returns-in_err-done-clause-few_failed g c =
-    err_failed c.from_residual.result c.in_err-done.field-0.0 _ c.from_residual.ensures.1
-    (unbroken_more (c.args.count + 9) (3 * c.args.count + 24) (told (g.D.Dmi.seen c.args.link.now)) (told (g.D.Dmi.seen c.store_run.new.link))
-    c.in_err-done.field-0.0 (omega arith)
-    (stores_fell_spent c.args.size c.args.address c.args.value c.args.count _ _ (told (g.D.Dmi.seen c.args.link.now))
-    (told (g.D.Dmi.seen c.store_run.new.link)) c.in_err-done.field-0.0 c.in_err-done.ensures.fell))
-
-pub returns-then-done-count-clause-few : goal.returns-then-done-count-clause-few
-returns-then-done-count-clause-few g c =
-    within_more (c.args.count + 9) (3 * c.args.count + 24) (told (g.D.Dmi.seen c.args.link.now)) (told (g.D.Dmi.seen c.store_run.new.link)) (omega arith)
-    (run_stores_spent c.args.size c.args.address c.args.value c.args.count c.in_ok-done.done (told (g.D.Dmi.seen c.args.link.now))
-    (told (g.D.Dmi.seen c.store_run.new.link)) c.in_ok-done.ensures.stores)
+    as_copies (λ xs n. BusValueStores c.args.size c.args.address xs (told (g.D.Dmi.seen c.args.link.now)) n (told
+    (g.D.Dmi.seen c.bus_store_values.new.link))) c.args.count c.args.value c.requires.room c.in_ok-bus_store_values.ensures.stores
 
 pub returns-clause-few : goal.returns-clause-few
 returns-clause-few g c =
-    within_then (c.args.count + 9) ((c.args.count - c.in_ok-done.done) + 4) (3 * c.args.count + 24) (told (g.D.Dmi.seen c.args.link.now))
-    (told (g.D.Dmi.seen c.store_run.new.link)) (told (g.D.Dmi.seen c.store_awaited.new.link)) (omega arith)
-    (run_stores_spent c.args.size c.args.address c.args.value c.args.count c.in_ok-done.done (told (g.D.Dmi.seen c.args.link.now))
-    (told (g.D.Dmi.seen c.store_run.new.link)) c.in_ok-done.ensures.stores)
-    (awaited_stores_spent c.args.size c.args.address c.args.value c.in_ok-done.done c.args.count (told (g.D.Dmi.seen c.store_run.new.link))
-    (told (g.D.Dmi.seen c.store_awaited.new.link)) c.in_ok-store_awaited.ensures.stored)
+    within_more (2 * c.args.count + 14) (3 * c.args.count + 24) (told (g.D.Dmi.seen c.args.link.now)) (told (g.D.Dmi.seen c.bus_store_values.new.link))
+    (omega (arith, c.requires.some))
+    (subst (λ n. DidAtMost sbcs_address (2 * n + 14) (told (g.D.Dmi.seen c.args.link.now)) (told (g.D.Dmi.seen c.bus_store_values.new.link)))
+    (same_words c.args.count c.args.value)
+    (as_copies (λ xs n. DidAtMost sbcs_address (2 * data_words xs + 14) (told (g.D.Dmi.seen c.args.link.now)) (told
+    (g.D.Dmi.seen c.bus_store_values.new.link))) c.args.count c.args.value c.requires.room
+    c.in_ok-bus_store_values.ensures.few))
 
-pub returns-in_err-store_awaited-clause-few_failed : goal.returns-in_err-store_awaited-clause-few_failed
-returns-in_err-store_awaited-clause-few_failed g c =
-    err_failed c.from_residual-in_err-store_awaited.result c.in_err-store_awaited.field-0.0 _ c.from_residual-in_err-store_awaited.ensures.1
-    (unbroken_behind (c.args.count + 9) ((c.args.count - c.in_ok-done.done) + 5) (3 * c.args.count + 24) (told (g.D.Dmi.seen c.args.link.now))
-    (told (g.D.Dmi.seen c.store_run.new.link)) (told (g.D.Dmi.seen c.store_awaited.new.link)) c.in_err-store_awaited.field-0.0 (omega arith)
-    (run_stores_spent c.args.size c.args.address c.args.value c.args.count c.in_ok-done.done (told (g.D.Dmi.seen c.args.link.now))
-    (told (g.D.Dmi.seen c.store_run.new.link)) c.in_ok-done.ensures.stores)
-    (awaited_stores_failed c.args.size c.args.address c.args.value c.in_ok-done.done c.args.count _ _ (told (g.D.Dmi.seen c.store_run.new.link))
-    (told (g.D.Dmi.seen c.store_awaited.new.link)) c.in_err-store_awaited.field-0.0 c.in_err-store_awaited.ensures.failed))
+pub returns-clause-rises : goal.returns-clause-rises
+returns-clause-rises g c =
+    rises_more (2 * (c.args.count + c.args.count) + 14) (bus_store_rises c.args.count) _ _
+    (subst (λ n. Within (2 * (n + c.args.count) + 14) (g.D.Dmi.seen c.args.link.now) (g.D.Dmi.seen c.bus_store_values.new.link))
+    (same_words c.args.count c.args.value)
+    (as_copies (λ xs n. Within (2 * (data_words xs + n) + 14) (g.D.Dmi.seen c.args.link.now)
+    (g.D.Dmi.seen c.bus_store_values.new.link)) c.args.count c.args.value c.requires.room c.bus_store_values.ensures.rises))
+    (omega arith)

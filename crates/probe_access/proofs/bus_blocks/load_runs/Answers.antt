@@ -1,11 +1,13 @@
+use Rattle.debug_model.proofs.RiseLemmas.{within_more as rises_more, within_then as rises_then}
 use Rattle.std.proofs.Common.{◌≡◌, ◌≢◌, ◌⊎◌, ◌∙◌, ◌≤◌, ◌+◌, ◌-◌, ◌*◌, ◌++◌, ℕ, List, length, sym, ap, subst, inl, inr, length-append, arith}
 use Rattle.rv_model.specs.declared.size.Size.{Size}
 use Rattle.probe_run.specs.Told.{told}
 use Rattle.probe_access.specs.BusBlockRuns.{BusLoads}
 use Rattle.probe_access.specs.Blocks.{element_at}
+use Rattle.probe_access.specs.BusStreams.{element_words}
 use Rattle.probe_access.proofs.BusBlockCauses.{bus_causes_behind, bus_loads_calls}
 use Rattle.probe_access.proofs.BusLoadBehind.{cut_behind, cut_of_more, left_behind, loaded_behind, loads_behind, refused_behind}
-use Rattle.probe_access.proofs.BusSpent.{unbroken_behind, unbroken_more, within_more, within_then}
+use Rattle.probe_access.proofs.BusSpent.{unbroken_behind, unbroken_more, within_more, within_then, words_most}
 use Rattle.probe_access.proofs.RegisterCalls.{err_failed}
 use Rattle.probe_access.proofs.bus_blocks.load_runs.Goals as goal
 
@@ -91,20 +93,29 @@ returns-in-Err-clause-causes g c =
 pub returns-in_err-load_run-clause-few_failed : goal.returns-in_err-load_run-clause-few_failed
 returns-in_err-load_run-clause-few_failed g c =
     err_failed c.from_residual.result c.in_err-load_run.field-0.0 _ c.from_residual.ensures.1
-    (unbroken_more (2 * c.first_run-first.result + 9) (3 * c.args.count + 24) (told (g.D.Dmi.seen c.args.link.now))
+    (unbroken_more (element_words c.args.size * c.first_run-first.result + 9) (3 * c.args.count + 24) (told (g.D.Dmi.seen c.args.link.now))
     (told (g.D.Dmi.seen c.load_run.new.link)) c.in_err-load_run.field-0.0 (omega (arith, c.first_run-first.ensures.few))
     c.in_err-load_run.ensures.few_failed)
 
 pub returns-then-done-first-clause-few : goal.returns-then-done-first-clause-few
 returns-then-done-first-clause-few g c =
-    within_more (2 * c.first_run-first.result + 9) ((c.args.count + 19) + 2 * length c.load_run.new.into.items) (told (g.D.Dmi.seen c.args.link.now))
+    within_more (element_words c.args.size * c.first_run-first.result + 9) ((c.args.count + 19) + 2 * length c.load_run.new.into.items) (told (g.D.Dmi.seen
+    c.args.link.now))
     (told (g.D.Dmi.seen c.load_run.new.link)) (omega (arith, c.first_run-first.ensures.few)) c.in_ok-load_run.ensures.few
 
 -- the first run was as long as it was to be
-both : (count first done kept : ℕ) → ((first ≡ count) ⊎ (count + 9 ≤ 2 * first)) → first ≢ count → first ≤ done → done ≤ count → done ≤ kept
-    → (2 * first + 9) + (2 * (count - done) + 9) ≤ (count + 19) + 2 * kept
-both count first done kept (inl is) other least within more = absurd (other is)
-both count first done kept (inr half) other least within more = omega (arith, half, least, within, more)
+both : (size : Size) (count first done kept : ℕ) → ((first ≡ count) ⊎ (count ≤ 2 * first)) → first ≢ count → first ≤ done → done ≤ count → done ≤ kept
+    → (element_words size * first + 9) + (element_words size * (count - done) + 9) ≤ (count + 19) + 2 * kept
+both size count first done kept (inl is) other least within more = absurd (other is)
+both size count first done kept (inr half) other least within more =
+    let f : element_words size * first ≤ 2 * first = words_most size first in
+    let r : element_words size * (count - done) ≤ 2 * (count - done) = words_most size (count - done) in omega (arith, half, least, within, more, f, r)
+
+both_failed : (size : Size) (count first done : ℕ) → first ≤ done → done ≤ count
+    → (element_words size * first + 9) + (element_words size * (count - done) + 9) ≤ 3 * count + 24
+both_failed size count first done least within =
+    let f : element_words size * first ≤ 2 * first = words_most size first in
+    let r : element_words size * (count - done) ≤ 2 * (count - done) = words_most size (count - done) in omega (arith, least, within, f, r)
 
 longer : (xs ys zs : List ℕ) → zs ≡ xs ++ ys → length xs ≤ length zs
 longer xs ys zs is =
@@ -119,10 +130,11 @@ returns-in-Ok-clause-few g c =
     longer c.load_run.new.into.items c.load_run-2.new.into.items c.append.new.into.items
     (joined c.load_run.new.into.items c.load_run-2.new.into.items c.append.new.into.items c.deref.result.now c.deref.ensures.0 c.append.ensures
     (omega (arith, d, m, k, c.first_run-first.ensures.within, c.requires.room))) in
-    within_then (2 * c.first_run-first.result + 9) (2 * (c.args.count - c.len-done.result) + 9)
+    within_then (element_words c.args.size * c.first_run-first.result + 9) (element_words c.args.size * (c.args.count - c.len-done.result) + 9)
     ((c.args.count + 19) + 2 * length c.append.new.into.items) (told (g.D.Dmi.seen c.args.link.now)) (told (g.D.Dmi.seen c.load_run.new.link))
     (told (g.D.Dmi.seen c.load_run-2.new.link))
-    (both c.args.count c.first_run-first.result c.len-done.result (length c.append.new.into.items) c.first_run-first.ensures.half c.if-first-count.false
+    (both c.args.size c.args.count c.first_run-first.result c.len-done.result (length c.append.new.into.items) c.first_run-first.ensures.half
+    c.if-first-count.false
     (omega (arith, c.if-done-first.false)) (omega (arith, d, k, c.first_run-first.ensures.within)) (omega (arith, d, more))) c.in_ok-load_run.ensures.few
     c.in-Ok.ensures.few
 
@@ -130,7 +142,29 @@ pub returns-in-Err-clause-few_failed : goal.returns-in-Err-clause-few_failed
 returns-in-Err-clause-few_failed g c =
     let d : c.len-done.result ≡ length c.load_run.new.into.items = c.len-done.ensures.value in
     let k : length c.load_run.new.into.items ≤ c.first_run-first.result = c.in_ok-load_run.ensures.most in
-    unbroken_behind (2 * c.first_run-first.result + 9) (2 * (c.args.count - c.len-done.result) + 9) (3 * c.args.count + 24)
+    unbroken_behind (element_words c.args.size * c.first_run-first.result + 9) (element_words c.args.size * (c.args.count - c.len-done.result) + 9)
+    (3 * c.args.count + 24)
     (told (g.D.Dmi.seen c.args.link.now)) (told (g.D.Dmi.seen c.load_run.new.link)) (told (g.D.Dmi.seen c.load_run-2.new.link)) c.in-Err.fault
-    (omega (arith, d, k, c.if-done-first.false, c.first_run-first.ensures.few, c.first_run-first.ensures.within)) c.in_ok-load_run.ensures.few
+    (both_failed c.args.size c.args.count c.first_run-first.result c.len-done.result (omega (arith, c.if-done-first.false))
+    (omega (arith, d, k, c.first_run-first.ensures.within))) c.in_ok-load_run.ensures.few
     c.in-Err.ensures.few_failed
+
+pub returns-in_err-load_run-clause-rises : goal.returns-in_err-load_run-clause-rises
+returns-in_err-load_run-clause-rises g c =
+    rises_more (2 * c.first_run-first.result + 11) (2 * c.args.count + 22) _ _ c.load_run.ensures.rises (omega (arith, c.first_run-first.ensures.within))
+
+pub returns-then-done-first-clause-rises : goal.returns-then-done-first-clause-rises
+returns-then-done-first-clause-rises g c =
+    rises_more (2 * c.first_run-first.result + 11) (2 * c.args.count + 22) _ _ c.load_run.ensures.rises (omega (arith, c.first_run-first.ensures.within))
+
+pub returns-in-Ok-clause-rises : goal.returns-in-Ok-clause-rises
+returns-in-Ok-clause-rises g c =
+    rises_then (2 * c.first_run-first.result + 11) (2 * (c.args.count - c.len-done.result) + 11) (2 * c.args.count + 22) _ (g.D.Dmi.seen c.load_run.new.link)
+    _ c.load_run.ensures.rises c.load_run-2.ensures.rises
+    c.load_run.ensures.keeps.fixed (omega (arith, c.if-done-first.false, c.first_run-first.ensures.within))
+
+pub returns-in-Err-clause-rises : goal.returns-in-Err-clause-rises
+returns-in-Err-clause-rises g c =
+    rises_then (2 * c.first_run-first.result + 11) (2 * (c.args.count - c.len-done.result) + 11) (2 * c.args.count + 22) _ (g.D.Dmi.seen c.load_run.new.link)
+    _ c.load_run.ensures.rises c.load_run-2.ensures.rises
+    c.load_run.ensures.keeps.fixed (omega (arith, c.if-done-first.false, c.first_run-first.ensures.within))

@@ -1,4 +1,5 @@
-use Rattle.std.proofs.Common.{◌≡◌, ◌∙◌, ◌+◌, ◌-◌, length, refl, sym, ap, subst, arith}
+use Rattle.debug_model.proofs.RiseLemmas.{within_more, within_then}
+use Rattle.std.proofs.Common.{◌≡◌, ◌∙◌, ◌+◌, ◌-◌, length, refl, sym, ap, subst, arith, ◌*◌}
 use Rattle.probe_run.specs.Told.{told}
 use Rattle.probe_access.specs.Blocks.{element_at}
 use Rattle.probe_access.specs.BusAwaits.{AwaitedLoadsFailed, LoadsAwaited}
@@ -23,6 +24,7 @@ elements-init g c = record {
   stands = c.in_ok-set_up.ensures.keeps.behind;
   later = c.set_up.ensures.keeps.later;
   fixed = c.set_up.ensures.keeps.fixed;
+  rises = within_more 3 (4 * c.len-done.result + 3) _ _ c.set_up.ensures.rises (omega arith);
 }
 
 pub returns-in_err-load_next-clause-failed : goal.returns-in_err-load_next-clause-failed
@@ -46,6 +48,9 @@ elements-preserved g c = record {
   stands = c.in_ok-load_next.ensures.keeps.behind;
   later = omega (arith, c.elements.invariant.later, c.load_next.ensures.keeps.later);
   fixed = c.load_next.ensures.keeps.fixed ∙ c.elements.invariant.fixed;
+  rises = within_then (4 * c.elements.number + 3) 4 (4 * (c.elements.number + 1) + 3) _ (g.D.Dmi.seen c.elements.link) _ c.elements.invariant.rises
+      c.load_next.ensures.rises
+      c.elements.invariant.fixed (omega arith);
 }
 
 pub returns-in_err-load_last-clause-failed : goal.returns-in_err-load_last-clause-failed
@@ -63,3 +68,24 @@ returns-in_err-load_last-clause-failed g c =
     c.in_err-load_last.field-0.0
     (place_of c.args.size c.args.address (c.args.count - 1) c.elements.into.items c.element-2.result c.element-2.ensures (omega (arith, end)))
     c.elements.invariant.later c.load_last.ensures.keeps.later c.in_err-load_last.ensures.failed)))
+
+pub returns-in_err-set_up-clause-rises : goal.returns-in_err-set_up-clause-rises
+returns-in_err-set_up-clause-rises g c =
+    within_more 3 (4 * c.args.count + 4) _ _ c.set_up.ensures.rises (omega arith)
+
+pub returns-in_err-load_next-clause-rises : goal.returns-in_err-load_next-clause-rises
+returns-in_err-load_next-clause-rises g c =
+    within_then (4 * c.elements.number + 3) 4 (4 * c.args.count + 4) _ (g.D.Dmi.seen c.elements.link) _ c.elements.invariant.rises c.load_next.ensures.rises
+    c.elements.invariant.fixed (omega (arith, c.elements-test.true))
+
+pub returns-in_err-load_last-clause-rises : goal.returns-in_err-load_last-clause-rises
+returns-in_err-load_last-clause-rises g c =
+    let d : c.len-done.result ≡ length c.args.into.now.items = c.len-done.ensures.value in
+    within_then (4 * c.elements.number + 3) 5 (4 * c.args.count + 4) _ (g.D.Dmi.seen c.elements.link) _ c.elements.invariant.rises c.load_last.ensures.rises
+    c.elements.invariant.fixed (omega (arith, d, c.elements-test.false, c.elements.auto.number-end, c.requires.some))
+
+pub returns-clause-rises : goal.returns-clause-rises
+returns-clause-rises g c =
+    let d : c.len-done.result ≡ length c.args.into.now.items = c.len-done.ensures.value in
+    within_then (4 * c.elements.number + 3) 5 (4 * c.args.count + 4) _ (g.D.Dmi.seen c.elements.link) _ c.elements.invariant.rises c.load_last.ensures.rises
+    c.elements.invariant.fixed (omega (arith, d, c.elements-test.false, c.elements.auto.number-end, c.requires.some))

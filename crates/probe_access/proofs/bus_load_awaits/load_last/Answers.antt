@@ -1,4 +1,5 @@
-use Rattle.std.proofs.Common.{[], ◌∷◌, false, refl, arith}
+use Rattle.debug_model.proofs.RiseLemmas.{within_more, within_then}
+use Rattle.std.proofs.Common.{[], ◌∷◌, false, refl, arith, ◌∙◌}
 use Rattle.debug_model.specs.Addresses.{sbcs_address}
 use Rattle.probe_run.specs.Acts.Act.{Put}
 use Rattle.probe_run.specs.Told.{told}
@@ -38,3 +39,26 @@ returns-clause-loaded g c = record {
       c.in_ok-write.ensures.passes;
   read = c.in_ok-read_call.ensures.read;
 }
+
+pub returns-in_err-finish-clause-rises : goal.returns-in_err-finish-clause-rises
+returns-in_err-finish-clause-rises g c =
+    within_more 2 5 _ _ c.finish.ensures.rises (omega arith)
+
+pub returns-in_err-write-clause-rises : goal.returns-in_err-write-clause-rises
+returns-in_err-write-clause-rises g c =
+    within_then 2 1 5 _ (g.D.Dmi.seen c.finish.new.link) _ c.finish.ensures.rises c.write.ensures.rises
+    c.finish.ensures.keeps.fixed (omega arith)
+
+pub returns-in_err-read_call-clause-rises : goal.returns-in_err-read_call-clause-rises
+returns-in_err-read_call-clause-rises g c =
+    within_then 3 2 5 _ (g.D.Dmi.seen c.write.new.self) _ (within_then 2 1 3 _ (g.D.Dmi.seen c.finish.new.link) _ c.finish.ensures.rises
+    c.write.ensures.rises c.finish.ensures.keeps.fixed (omega arith))
+    c.read_call.ensures.rises
+    (c.write.ensures.keeps.fixed ∙ c.finish.ensures.keeps.fixed) (omega arith)
+
+pub returns-clause-rises : goal.returns-clause-rises
+returns-clause-rises g c =
+    within_then 3 2 5 _ (g.D.Dmi.seen c.write.new.self) _ (within_then 2 1 3 _ (g.D.Dmi.seen c.finish.new.link) _ c.finish.ensures.rises
+    c.write.ensures.rises c.finish.ensures.keeps.fixed (omega arith))
+    c.read_call.ensures.rises
+    (c.write.ensures.keeps.fixed ∙ c.finish.ensures.keeps.fixed) (omega arith)

@@ -1,6 +1,7 @@
 use Rattle.debug_model.specs.Addresses.{sbcs_address}
 use Rattle.probe_run.specs.Told.{told}
-use Rattle.std.proofs.Common.{◌∙◌, refl, sym, ap}
+use Rattle.std.proofs.Common.{◌∙◌, refl, sym, ap, arith}
+use Rattle.debug_model.proofs.RiseLemmas.{within_more}
 use Rattle.debug_model.specs.declared.sbcs.Sbcs.{Sbcs}
 use Rattle.probe_access.proofs.BusPolls.{clear_broke}
 use Rattle.probe_access.proofs.RegisterCalls.{err_failed, put_did}
@@ -25,3 +26,6 @@ returns-then-bus-eq-OUTSIDE-clause-failed g c = (
     cleared = put_did sbcs_address 0x407000 _ _ c.in_ok-write.ensures.operated c.in_ok-write.ensures.passes;
   },
 )
+
+pub returns-then-not-bus-clause-rises : goal.returns-then-not-bus-clause-rises
+returns-then-not-bus-clause-rises g c = within_more 1 2 _ _ c.poll_bus.ensures.rises (omega arith)

@@ -1,5 +1,6 @@
+use Rattle.debug_model.proofs.RiseLemmas.{within_then}
 use Rattle.probe_run.specs.Told.{told}
-use Rattle.std.proofs.Common.{refl, [], ◌∷◌, arith}
+use Rattle.std.proofs.Common.{refl, [], ◌∷◌, arith, ◌∙◌}
 use Rattle.debug_model.specs.Addresses.{sbaddress0_address, sbaddress1_address, sbcs_address}
 use Rattle.debug_model.specs.Commands.{high_half, low_half}
 use Rattle.probe_run.specs.Acts.Act.{Put}
@@ -45,3 +46,15 @@ returns-clause-did g c =
     (did_then _ _ _ (word_put 58 c.high_word.result (high_half c.args.address) _ _ c.high_word.ensures c.in_ok-write-2.ensures.operated
     c.in_ok-write-2.ensures.passes) _ _
     (word_put 57 c.low_word.result (low_half c.args.address) _ _ c.low_word.ensures c.in_ok-write-3.ensures.operated c.in_ok-write-3.ensures.passes))
+
+pub returns-in_err-write-3-clause-rises : goal.returns-in_err-write-3-clause-rises
+returns-in_err-write-3-clause-rises g c =
+    within_then 2 1 3 _ (g.D.Dmi.seen c.write-2.new.self) _ (within_then 1 1 2 _ (g.D.Dmi.seen c.write.new.self) _ c.write.ensures.rises c.write-2.ensures.rises
+    c.write.ensures.keeps.fixed (omega arith)) c.write-3.ensures.rises
+    (c.write-2.ensures.keeps.fixed ∙ c.write.ensures.keeps.fixed) (omega arith)
+
+pub returns-clause-rises : goal.returns-clause-rises
+returns-clause-rises g c =
+    within_then 2 1 3 _ (g.D.Dmi.seen c.write-2.new.self) _ (within_then 1 1 2 _ (g.D.Dmi.seen c.write.new.self) _ c.write.ensures.rises c.write-2.ensures.rises
+    c.write.ensures.keeps.fixed (omega arith)) c.write-3.ensures.rises
+    (c.write-2.ensures.keeps.fixed ∙ c.write.ensures.keeps.fixed) (omega arith)

@@ -1,5 +1,6 @@
+use Rattle.debug_model.proofs.RiseLemmas.{within_then}
 use Rattle.probe_run.specs.Told.{told}
-use Rattle.std.proofs.Common.{◌≡◌, ◌++◌, ℕ, refl, subst, [], ◌∷◌, arith}
+use Rattle.std.proofs.Common.{◌≡◌, ◌++◌, ℕ, refl, subst, [], ◌∷◌, arith, ◌∙◌}
 use Rattle.debug_model.specs.Addresses.{sbdata0_address, sbdata1_address}
 use Rattle.debug_model.specs.Commands.{high_half, low_half}
 use Rattle.probe_run.specs.Acts.{Did, Tells}
@@ -56,3 +57,15 @@ returns-clause-did g c =
     (did_then _ _ _ (word_put 61 c.high_word.result (high_half c.args.value) _ _ c.high_word.ensures c.in_ok-write.ensures.operated
     c.in_ok-write.ensures.passes) _ _
     (word_put 60 c.low_word.result (low_half c.args.value) _ _ c.low_word.ensures c.in_ok-write-2.ensures.operated c.in_ok-write-2.ensures.passes))
+
+pub returns-in_err-write-2-clause-rises : goal.returns-in_err-write-2-clause-rises
+returns-in_err-write-2-clause-rises g c =
+    within_then 4 1 5 _ (g.D.Dmi.seen c.write.new.self) _ (within_then 3 1 4 _ (g.D.Dmi.seen c.set_up.new.link) _ c.set_up.ensures.rises c.write.ensures.rises
+    c.set_up.ensures.keeps.fixed (omega arith)) c.write-2.ensures.rises
+    (c.write.ensures.keeps.fixed ∙ c.set_up.ensures.keeps.fixed) (omega arith)
+
+pub returns-clause-rises : goal.returns-clause-rises
+returns-clause-rises g c =
+    within_then 4 1 5 _ (g.D.Dmi.seen c.write.new.self) _ (within_then 3 1 4 _ (g.D.Dmi.seen c.set_up.new.link) _ c.set_up.ensures.rises c.write.ensures.rises
+    c.set_up.ensures.keeps.fixed (omega arith)) c.write-2.ensures.rises
+    (c.write.ensures.keeps.fixed ∙ c.set_up.ensures.keeps.fixed) (omega arith)

@@ -1,4 +1,5 @@
-use Rattle.std.proofs.Common.{refl}
+use Rattle.debug_model.proofs.RiseLemmas.{within_more, within_then}
+use Rattle.std.proofs.Common.{refl, ◌+◌, ◌*◌, arith}
 use Rattle.probe_run.specs.Told.{told}
 use Rattle.probe_access.specs.BusStreams.{RunLoads, RunOddly}
 use Rattle.probe_access.proofs.BusStreamOutcomes.{find_fell, hand_out_fell, stopped_of}
@@ -34,3 +35,30 @@ returns-clause-loads g c =
     (stopped_of c.args.size c.args.address c.args.count c.in_ok-last.last c.in_ok-held.held.address c.in_ok-held.held.value c.run.new.into.items
     c.hand_over.new.into.items (told (g.D.Dmi.seen c.args.link.now)) (told (g.D.Dmi.seen c.run.new.link)) (told (g.D.Dmi.seen c.find.new.link))
     c.in_ok-last.ensures.read c.in_ok-held.ensures.found handed.1) end.0 end.1
+
+pub returns-in_err-last-clause-rises : goal.returns-in_err-last-clause-rises
+returns-in_err-last-clause-rises g c =
+    within_more (2 * c.args.count + 6) (2 * c.args.count + 11) _ _ c.run.ensures.rises (omega arith)
+
+pub returns-then-is_fine-clause-rises : goal.returns-then-is_fine-clause-rises
+returns-then-is_fine-clause-rises g c =
+    within_more (2 * c.args.count + 6) (2 * c.args.count + 11) _ _ c.run.ensures.rises (omega arith)
+
+pub returns-then-is_other-clause-rises : goal.returns-then-is_other-clause-rises
+returns-then-is_other-clause-rises g c =
+    within_more (2 * c.args.count + 6) (2 * c.args.count + 11) _ _ c.run.ensures.rises (omega arith)
+
+pub returns-in_err-held-clause-rises : goal.returns-in_err-held-clause-rises
+returns-in_err-held-clause-rises g c =
+    within_then (2 * c.args.count + 6) 5 (2 * c.args.count + 11) _ (g.D.Dmi.seen c.run.new.link) _ c.run.ensures.rises c.find.ensures.rises
+    c.run.ensures.keeps.fixed (omega arith)
+
+pub returns-in_err-hand_over-clause-rises : goal.returns-in_err-hand_over-clause-rises
+returns-in_err-hand_over-clause-rises g c =
+    within_then (2 * c.args.count + 6) 5 (2 * c.args.count + 11) _ (g.D.Dmi.seen c.run.new.link) _ c.run.ensures.rises c.find.ensures.rises
+    c.run.ensures.keeps.fixed (omega arith)
+
+pub returns-clause-rises : goal.returns-clause-rises
+returns-clause-rises g c =
+    within_then (2 * c.args.count + 6) 5 (2 * c.args.count + 11) _ (g.D.Dmi.seen c.run.new.link) _ c.run.ensures.rises c.find.ensures.rises
+    c.run.ensures.keeps.fixed (omega arith)

@@ -1,3 +1,4 @@
+use Rattle.probe_access.proofs.BlockRises.{reads_rise}
 use Rattle.std.proofs.Common.{◌∙◌, ◌++◌, All, ap, sym, subst, take}
 use Rattle.debug_model.specs.Dmi.{IsOperation}
 use Rattle.probe_run.specs.Told.{told}
@@ -24,3 +25,13 @@ returns-clause-read g c =
     c.fill_reads-filled.ensures.filled c.requires.some c.in_ok-many.ensures.count
     (c.take_values.ensures ∙ ap (λ xs. c.args.into.now.items ++ values_in c.args.size xs) c.deref.ensures.0) c.in_ok-many.ensures.operated
     c.in_ok-many.ensures.answers
+
+pub returns-in_err-many-clause-rises : goal.returns-in_err-many-clause-rises
+returns-in_err-many-clause-rises g c =
+    reads_rise c.args.size c.args.number (take c.fill_reads-filled.result c.fill_reads-filled.new.operations) _ _ c.fill_reads-filled.ensures.filled
+    c.many.ensures.rises
+
+pub returns-clause-rises : goal.returns-clause-rises
+returns-clause-rises g c =
+    reads_rise c.args.size c.args.number (take c.fill_reads-filled.result c.fill_reads-filled.new.operations) _ _ c.fill_reads-filled.ensures.filled
+    c.many.ensures.rises

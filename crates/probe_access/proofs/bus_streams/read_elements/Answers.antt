@@ -1,4 +1,5 @@
-use Rattle.std.proofs.Common.{◌≡◌, ◌∙◌, ◌-◌, ◌+◌, ◌++◌, ℕ, List, length, refl, ap, subst, length-append, arith}
+use Rattle.debug_model.proofs.RiseLemmas.{within_none, within_then, within_more}
+use Rattle.std.proofs.Common.{◌≡◌, ◌∙◌, ◌-◌, ◌+◌, ◌++◌, ℕ, List, length, refl, ap, subst, length-append, arith, ◌*◌}
 use Rattle.rv_model.specs.declared.size.Size.{Size}
 use Rattle.probe_run.specs.Acts.{Tells}
 use Rattle.probe_run.specs.Told.{told}
@@ -25,6 +26,7 @@ calls-init g c = record {
   stands = c.requires.stands;
   later = omega arith;
   fixed = refl;
+  rises = within_none (2 * (c.args.number - c.args.number)) (g.D.Dmi.seen c.args.link.now) (g.D.Dmi.seen c.args.link.now) refl;
 }
 
 pub returns-in_err-read_call-clause-broke : goal.returns-in_err-read_call-clause-broke
@@ -49,4 +51,17 @@ calls-preserved g c =
       stands = c.in_ok-read_call.ensures.keeps.behind;
       later = omega (arith, c.calls.invariant.later, c.read_call.ensures.keeps.later);
       fixed = c.read_call.ensures.keeps.fixed ∙ c.calls.invariant.fixed;
+      rises = within_then (2 * (c.args.number - c.calls.left)) (2 * c.next_call-now.result) (2 * (c.args.number - (c.calls.left - c.next_call-now.result))) _
+          (g.D.Dmi.seen c.calls.link) _ c.calls.invariant.rises c.read_call.ensures.rises
+          c.calls.invariant.fixed (omega (arith, c.next_call-now.ensures.within, c.calls.invariant.few));
     }
+
+pub returns-in_err-read_call-clause-rises : goal.returns-in_err-read_call-clause-rises
+returns-in_err-read_call-clause-rises g c =
+    within_then (2 * (c.args.number - c.calls.left)) (2 * c.next_call-now.result) (2 * c.args.number) _ (g.D.Dmi.seen c.calls.link) _ c.calls.invariant.rises
+    c.read_call.ensures.rises
+    c.calls.invariant.fixed (omega (arith, c.next_call-now.ensures.within, c.calls.invariant.few))
+
+pub returns-clause-rises : goal.returns-clause-rises
+returns-clause-rises g c =
+    within_more (2 * (c.args.number - c.calls.left)) (2 * c.args.number) _ _ c.calls.invariant.rises (omega arith)

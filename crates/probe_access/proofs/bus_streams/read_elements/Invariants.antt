@@ -1,5 +1,6 @@
+use Rattle.debug_model.specs.Rises.{Within}
 use Rattle.probe_run.specs.Told.{told}
-use Rattle.std.proofs.Common.{◌≡◌, ◌≤◌, ◌-◌, ◌+◌, length}
+use Rattle.std.proofs.Common.{◌≡◌, ◌≤◌, ◌-◌, ◌+◌, length, ◌*◌}
 use Rattle.debug_model.specs.Kept.{Stands}
 use Rattle.debug_model.specs.Command.{most_elements}
 use Rattle.probe_access.specs.BusStreams.{MoreRead}
@@ -13,6 +14,7 @@ invariant-calls g l = record {
   stands : Stands (g.D.Dmi.seen l.link);
   later : (g.D.Dmi.seen l.fn.link).fault_count ≤ (g.D.Dmi.seen l.link).fault_count;
   fixed : (g.D.Dmi.seen l.link).fixed ≡ (g.D.Dmi.seen l.fn.link).fixed;
+  rises : Within (2 * (l.number - l.left)) (g.D.Dmi.seen l.fn.link) (g.D.Dmi.seen l.link);
 }
 
 abbrev pub decreases-calls : goal.decreases-calls

@@ -1,8 +1,9 @@
-use Rattle.std.proofs.Common.{◌∙◌, ◌-◌, All, List, ℕ, slice_index_or, sym, subst, take}
+use Rattle.debug_model.proofs.RiseLemmas.{within_more, within_then}
+use Rattle.std.proofs.Common.{◌∙◌, ◌-◌, All, List, ℕ, slice_index_or, sym, subst, take, ◌≡◌, ◌+◌, ◌*◌, length, arith}
 use Rattle.debug_model.specs.Dmi.{IsOperation}
 use Rattle.probe_run.specs.Told.{told}
 use Rattle.probe_access.specs.CommandRuns.{EndedFrom}
-use Rattle.probe_access.specs.ReadRuns.{is_wide}
+use Rattle.probe_access.specs.ReadRuns.{is_wide, own_words}
 use Rattle.probe_access.proofs.ReadCalls.{LoadsDid, load_broke, load_did, load_ended, load_failed, load_long, load_small}
 use Rattle.probe_access.proofs.RegisterCalls.{err_failed}
 use Rattle.probe_access.proofs.load_runs.ask_loads.Goals as goal
@@ -44,3 +45,32 @@ returns-clause-asked g c =
     c.in_ok-many.ensures.operated c.in_ok-many.ensures.answers)
     (subst (λ (xs : List ℕ). EndedFrom (slice_index_or xs (c.fill_loads-filled.result - 1) 0) c.in_ok-last.last (told (g.D.Dmi.seen c.many.new.self))
     (told (g.D.Dmi.seen c.end_command.new.link))) c.deref.ensures.0 c.in_ok-last.ensures.ended)
+
+pub returns-in_err-many-clause-rises : goal.returns-in_err-many-clause-rises
+returns-in_err-many-clause-rises g c =
+    let e : length (take c.fill_loads-filled.result c.fill_loads-filled.new.operations) ≡ c.fill_loads-filled.result =
+    load_long (is_wide c.args.size) c.args.run.looks c.args.run.more c.fill_loads-filled.result c.fill_loads-filled.new.operations
+    c.fill_loads-filled.ensures.filled
+    c.fill_loads-filled.ensures.count in
+    within_more (length (take c.fill_loads-filled.result c.fill_loads-filled.new.operations)) (c.args.run.more * (c.args.run.looks + own_words (is_wide
+    c.args.size)) + 7) _ _ c.many.ensures.rises (omega (arith, e, c.fill_loads-filled.ensures.count))
+
+pub returns-in_err-last-clause-rises : goal.returns-in_err-last-clause-rises
+returns-in_err-last-clause-rises g c =
+    let e : length (take c.fill_loads-filled.result c.fill_loads-filled.new.operations) ≡ c.fill_loads-filled.result =
+    load_long (is_wide c.args.size) c.args.run.looks c.args.run.more c.fill_loads-filled.result c.fill_loads-filled.new.operations
+    c.fill_loads-filled.ensures.filled
+    c.fill_loads-filled.ensures.count in
+    within_then (length (take c.fill_loads-filled.result c.fill_loads-filled.new.operations)) 4 (c.args.run.more * (c.args.run.looks + own_words (is_wide
+    c.args.size)) + 7) _ (g.D.Dmi.seen c.many.new.self) _ c.many.ensures.rises c.end_command.ensures.rises
+    c.many.ensures.keeps.fixed (omega (arith, e, c.fill_loads-filled.ensures.count))
+
+pub returns-clause-rises : goal.returns-clause-rises
+returns-clause-rises g c =
+    let e : length (take c.fill_loads-filled.result c.fill_loads-filled.new.operations) ≡ c.fill_loads-filled.result =
+    load_long (is_wide c.args.size) c.args.run.looks c.args.run.more c.fill_loads-filled.result c.fill_loads-filled.new.operations
+    c.fill_loads-filled.ensures.filled
+    c.fill_loads-filled.ensures.count in
+    within_then (length (take c.fill_loads-filled.result c.fill_loads-filled.new.operations)) 4 (c.args.run.more * (c.args.run.looks + own_words (is_wide
+    c.args.size)) + 7) _ (g.D.Dmi.seen c.many.new.self) _ c.many.ensures.rises c.end_command.ensures.rises
+    c.many.ensures.keeps.fixed (omega (arith, e, c.fill_loads-filled.ensures.count))

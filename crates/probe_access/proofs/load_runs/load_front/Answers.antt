@@ -1,4 +1,7 @@
-use Rattle.std.proofs.Common.{◌∙◌, arith}
+use Rattle.probe_access.specs.ReadRuns.{is_wide, own_words}
+use Rattle.debug_model.proofs.RiseLemmas.{within_more, within_then}
+use Rattle.probe_access.proofs.BlockRises.{run_most, loads_wasted, loads_cut, loads_end}
+use Rattle.std.proofs.Common.{◌∙◌, arith, ◌≤◌, ◌+◌, ◌*◌, length}
 use Rattle.probe_access.specs.ElementRuns.LoadsFailed.{in_start}
 use Rattle.probe_access.proofs.ElementCalls.{none_counted, none_on, start_as}
 use Rattle.probe_access.proofs.ReadHands.{runs_on, runs_stop}
@@ -20,6 +23,8 @@ runs-init g c = record {
   stands = c.in_ok-start_block.ensures.keeps.behind;
   later = c.start_block.ensures.keeps.later;
   fixed = c.start_block.ensures.keeps.fixed;
+  few = omega arith;
+  rises = within_more 17 ((17 + 18 * length c.args.into.now.items) + 0 * (8 * c.args.count)) _ _ c.start_block.ensures.rises (omega arith);
 }
 
 pub returns-in_err-whole-clause-failed : goal.returns-in_err-whole-clause-failed
@@ -36,6 +41,25 @@ runs-preserved-then-not-whole g c = record {
   stands = c.in_ok-whole.ensures.keeps.behind;
   later = omega (arith, c.runs.invariant.later, c.load_run.ensures.keeps.later);
   fixed = c.load_run.ensures.keeps.fixed ∙ c.runs.invariant.fixed;
+  few = omega (arith, c.runs-test.true);
+  rises = let cost : c.next_run-run.result.more * (c.next_run-run.result.looks + own_words (is_wide c.args.size)) ≤ 8 * c.next_run-run.result.more =
+      run_most 8 c.next_run-run.result.more (c.next_run-run.result.looks + own_words (is_wide c.args.size)) (omega (
+        arith,
+        c.own_words.ensures.words,
+        c.own_words.ensures.few,
+        c.next_run-run.ensures.looks,
+        c.runs-test.true,
+      )) in
+      let waste : c.next_run-run.result.more * (c.next_run-run.result.looks + own_words (is_wide c.args.size)) ≤ 8 * c.args.count = omega (
+        arith,
+        cost,
+        c.next_run-run.ensures.within,
+      ) in
+      within_then ((17 + 18 * length c.runs.into.items) + c.runs.looks * (8 * c.args.count)) (c.next_run-run.result.more * (c.next_run-run.result.looks +
+      own_words (is_wide c.args.size)) + 18) ((17 + 18 * length c.load_run.new.into.items) + (c.runs.looks + 1) * (8 * c.args.count)) _ (g.D.Dmi.seen
+      c.runs.link) _ c.runs.invariant.rises c.load_run.ensures.rises
+      c.runs.invariant.fixed (loads_wasted (length c.runs.into.items) (length c.load_run.new.into.items) c.runs.looks (8 * c.args.count)
+      (c.next_run-run.result.more * (c.next_run-run.result.looks + own_words (is_wide c.args.size))) waste c.in_ok-whole.ensures.more);
 }
 
 pub runs-preserved : goal.runs-preserved
@@ -46,4 +70,53 @@ runs-preserved g c = record {
   stands = c.in_ok-whole.ensures.keeps.behind;
   later = omega (arith, c.runs.invariant.later, c.load_run.ensures.keeps.later);
   fixed = c.load_run.ensures.keeps.fixed ∙ c.runs.invariant.fixed;
+  few = c.runs.invariant.few;
+  rises = let cost : c.next_run-run.result.more * (c.next_run-run.result.looks + own_words (is_wide c.args.size)) ≤ 8 * c.next_run-run.result.more =
+      run_most 8 c.next_run-run.result.more (c.next_run-run.result.looks + own_words (is_wide c.args.size)) (omega (
+        arith,
+        c.own_words.ensures.words,
+        c.own_words.ensures.few,
+        c.next_run-run.ensures.looks,
+        c.runs-test.true,
+      )) in
+      within_then ((17 + 18 * length c.runs.into.items) + c.runs.looks * (8 * c.args.count)) (c.next_run-run.result.more * (c.next_run-run.result.looks +
+      own_words (is_wide c.args.size)) + 18) ((17 + 18 * length c.load_run.new.into.items) + c.runs.looks * (8 * c.args.count)) _ (g.D.Dmi.seen c.runs.link)
+      _ c.runs.invariant.rises c.load_run.ensures.rises
+      c.runs.invariant.fixed (omega (arith, cost, c.in_ok-whole.ensures.whole c.if-not-whole.false));
 }
+
+pub returns-in_err-start_block-clause-rises : goal.returns-in_err-start_block-clause-rises
+returns-in_err-start_block-clause-rises g c =
+    within_more 17 (74 * c.args.count) _ _ c.start_block.ensures.rises (omega (arith, c.requires.some))
+
+pub returns-in_err-whole-clause-rises : goal.returns-in_err-whole-clause-rises
+returns-in_err-whole-clause-rises g c =
+    let cost : c.next_run-run.result.more * (c.next_run-run.result.looks + own_words (is_wide c.args.size)) ≤ 8 * c.next_run-run.result.more =
+    run_most 8 c.next_run-run.result.more (c.next_run-run.result.looks + own_words (is_wide c.args.size)) (omega (
+      arith,
+      c.own_words.ensures.words,
+      c.own_words.ensures.few,
+      c.next_run-run.ensures.looks,
+      c.runs-test.true,
+    )) in
+    within_then ((17 + 18 * length c.runs.into.items) + c.runs.looks * (8 * c.args.count)) (c.next_run-run.result.more * (c.next_run-run.result.looks +
+    own_words (is_wide c.args.size)) + 18) (74 * c.args.count) _ (g.D.Dmi.seen c.runs.link) _ c.runs.invariant.rises c.load_run.ensures.rises
+    c.runs.invariant.fixed (loads_cut (length c.runs.into.items) c.runs.looks c.next_run-run.result.more (c.next_run-run.result.more *
+    (c.next_run-run.result.looks + own_words (is_wide c.args.size))) c.args.count (omega (arith, c.runs-test.true)) cost (omega (
+      arith,
+      c.next_run-run.ensures.within,
+      c.if-len-from.true,
+      c.len.ensures.value,
+      c.len-in-runs.ensures.value,
+      c.from.ensures,
+    )))
+
+pub returns-else-len-from-clause-rises : goal.returns-else-len-from-clause-rises
+returns-else-len-from-clause-rises g c =
+    within_more ((17 + 18 * length c.runs.into.items) + c.runs.looks * (8 * c.args.count)) (74 * c.args.count) _ _ c.runs.invariant.rises (loads_end (length
+    c.runs.into.items) c.runs.looks c.args.count c.runs.invariant.most c.runs.invariant.few)
+
+pub returns-after-runs-clause-rises : goal.returns-after-runs-clause-rises
+returns-after-runs-clause-rises g c =
+    within_more ((17 + 18 * length c.runs.into.items) + c.runs.looks * (8 * c.args.count)) (74 * c.args.count) _ _ c.runs.invariant.rises (loads_end (length
+    c.runs.into.items) c.runs.looks c.args.count c.runs.invariant.most c.runs.invariant.few)

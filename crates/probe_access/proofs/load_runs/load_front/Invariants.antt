@@ -1,4 +1,5 @@
-use Rattle.std.proofs.Common.{◌≡◌, ◌≤◌, ◌<◌, ◌-◌, length}
+use Rattle.debug_model.specs.Rises.{Within}
+use Rattle.std.proofs.Common.{◌≡◌, ◌≤◌, ◌<◌, ◌-◌, length, ◌+◌, ◌*◌}
 use Rattle.debug_model.specs.Kept.{CanCall, Stands}
 use Rattle.probe_run.specs.Told.{told}
 use Rattle.probe_access.specs.ElementRuns.{LoadsOn}
@@ -15,4 +16,6 @@ invariant-runs g l = record {
   stands : Stands (g.D.Dmi.seen l.link);
   later : (g.D.Dmi.seen l.fn.link).fault_count ≤ (g.D.Dmi.seen l.link).fault_count;
   fixed : (g.D.Dmi.seen l.link).fixed ≡ (g.D.Dmi.seen l.fn.link).fixed;
+  few : l.looks ≤ 7;
+  rises : Within ((17 + 18 * length l.into.items) + l.looks * (8 * l.fn.count)) (g.D.Dmi.seen l.fn.link) (g.D.Dmi.seen l.link);
 }

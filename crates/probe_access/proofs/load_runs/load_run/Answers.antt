@@ -1,7 +1,9 @@
-use Rattle.std.proofs.Common.{◌∙◌, ◌-◌, ◌++◌, ◌∷◌, [], List, ℕ, drop, sym, ap, arith, refl}
+use Rattle.std.proofs.lemmas.Bool.{false≢true}
+use Rattle.debug_model.proofs.RiseLemmas.{within_more, within_then}
+use Rattle.std.proofs.Common.{◌∙◌, ◌-◌, ◌++◌, ◌∷◌, [], List, ℕ, drop, sym, ap, arith, refl, ◌+◌, ◌*◌}
 use Rattle.debug_model.specs.declared.abstractcs.Abstractcs.{Abstractcs}
 use Rattle.probe_run.specs.Told.{told}
-use Rattle.probe_access.specs.ReadRuns.{is_wide, values_read}
+use Rattle.probe_access.specs.ReadRuns.{is_wide, values_read, own_words}
 use Rattle.probe_access.proofs.ReadHands.{
   hand_asking,
   hand_early_misplaced,
@@ -149,3 +151,100 @@ returns-in_default-clause-failed g c =
     hand_oddly c.args.size c.args.address c.args.count c.args.run.looks c.args.run.more c.in_ok-last.last c.args.into.now.items
     (drop 2 c.run_loads.new.words.items) _ _ _ _ c.requires.within
     c.in_ok-last.ensures.asked (λ e. let f = is ∙ e in omega arith) (λ e. let f = is ∙ e in omega arith) (λ e. let f = is ∙ e in omega arith)
+
+pub returns-in_err-last-clause-rises : goal.returns-in_err-last-clause-rises
+returns-in_err-last-clause-rises g c =
+    within_more (c.args.run.more * (c.args.run.looks + own_words (is_wide c.args.size)) + 8) (c.args.run.more * (c.args.run.looks + own_words (is_wide
+    c.args.size)) + 18) _ _ c.run_loads.ensures.rises (omega arith)
+
+pub returns-in_default-clause-rises : goal.returns-in_default-clause-rises
+returns-in_default-clause-rises g c =
+    within_more (c.args.run.more * (c.args.run.looks + own_words (is_wide c.args.size)) + 8) (c.args.run.more * (c.args.run.looks + own_words (is_wide
+    c.args.size)) + 18) _ _ c.run_loads.ensures.rises (omega arith)
+
+pub returns-in_err-value-in-0-clause-rises : goal.returns-in_err-value-in-0-clause-rises
+returns-in_err-value-in-0-clause-rises g c =
+    within_then (c.args.run.more * (c.args.run.looks + own_words (is_wide c.args.size)) + 8) 2 (c.args.run.more * (c.args.run.looks + own_words (is_wide
+    c.args.size)) + 18) _ (g.D.Dmi.seen c.run_loads.new.link) _ c.run_loads.ensures.rises c.read_double.ensures.rises
+    c.run_loads.ensures.keeps.fixed (omega arith)
+
+pub returns-in_ok-value-in-0-clause-rises : goal.returns-in_ok-value-in-0-clause-rises
+returns-in_ok-value-in-0-clause-rises g c =
+    within_then (c.args.run.more * (c.args.run.looks + own_words (is_wide c.args.size)) + 8) 2 (c.args.run.more * (c.args.run.looks + own_words (is_wide
+    c.args.size)) + 18) _ (g.D.Dmi.seen c.run_loads.new.link) _ c.run_loads.ensures.rises c.read_double.ensures.rises
+    c.run_loads.ensures.keeps.fixed (omega arith)
+
+pub returns-in_err-value-in-1-clause-rises : goal.returns-in_err-value-in-1-clause-rises
+returns-in_err-value-in-1-clause-rises g c =
+    within_then (c.args.run.more * (c.args.run.looks + own_words (is_wide c.args.size)) + 8) 2 (c.args.run.more * (c.args.run.looks + own_words (is_wide
+    c.args.size)) + 18) _ (g.D.Dmi.seen c.run_loads.new.link) _ c.run_loads.ensures.rises c.read_double-in-1.ensures.rises
+    c.run_loads.ensures.keeps.fixed (omega arith)
+
+pub returns-in_err-value-in-3-clause-rises : goal.returns-in_err-value-in-3-clause-rises
+returns-in_err-value-in-3-clause-rises g c =
+    within_then (c.args.run.more * (c.args.run.looks + own_words (is_wide c.args.size)) + 8) 2 (c.args.run.more * (c.args.run.looks + own_words (is_wide
+    c.args.size)) + 18) _ (g.D.Dmi.seen c.run_loads.new.link) _ c.run_loads.ensures.rises c.read_double-in-3.ensures.rises
+    c.run_loads.ensures.keeps.fixed (omega arith)
+
+pub returns-in_err-x8-in-1-clause-rises : goal.returns-in_err-x8-in-1-clause-rises
+returns-in_err-x8-in-1-clause-rises g c =
+    within_then (c.args.run.more * (c.args.run.looks + own_words (is_wide c.args.size)) + 10) 8 (c.args.run.more * (c.args.run.looks + own_words (is_wide
+    c.args.size)) + 18) _ (g.D.Dmi.seen c.read_double-in-1.new.link) _ (within_then (c.args.run.more * (c.args.run.looks + own_words (is_wide c.args.size)) +
+    8) 2 (c.args.run.more * (c.args.run.looks + own_words (is_wide c.args.size)) + 10) _ (g.D.Dmi.seen c.run_loads.new.link) _ c.run_loads.ensures.rises
+    c.read_double-in-1.ensures.rises c.run_loads.ensures.keeps.fixed (omega arith))
+    c.read_apart.ensures.rises
+    (c.read_double-in-1.ensures.keeps.fixed ∙ c.run_loads.ensures.keeps.fixed) (omega arith)
+
+pub returns-in_default-made_of-clause-rises : goal.returns-in_default-made_of-clause-rises
+returns-in_default-made_of-clause-rises g c =
+    within_then (c.args.run.more * (c.args.run.looks + own_words (is_wide c.args.size)) + 10) 8 (c.args.run.more * (c.args.run.looks + own_words (is_wide
+    c.args.size)) + 18) _ (g.D.Dmi.seen c.read_double-in-1.new.link) _ (within_then (c.args.run.more * (c.args.run.looks + own_words (is_wide c.args.size)) +
+    8) 2 (c.args.run.more * (c.args.run.looks + own_words (is_wide c.args.size)) + 10) _ (g.D.Dmi.seen c.run_loads.new.link) _ c.run_loads.ensures.rises
+    c.read_double-in-1.ensures.rises c.run_loads.ensures.keeps.fixed (omega arith))
+    c.read_apart.ensures.rises
+    (c.read_double-in-1.ensures.keeps.fixed ∙ c.run_loads.ensures.keeps.fixed) (omega arith)
+
+pub returns-in-Some-clause-rises : goal.returns-in-Some-clause-rises
+returns-in-Some-clause-rises g c =
+    within_then (c.args.run.more * (c.args.run.looks + own_words (is_wide c.args.size)) + 10) 8 (c.args.run.more * (c.args.run.looks + own_words (is_wide
+    c.args.size)) + 18) _ (g.D.Dmi.seen c.read_double-in-1.new.link) _ (within_then (c.args.run.more * (c.args.run.looks + own_words (is_wide c.args.size)) +
+    8) 2 (c.args.run.more * (c.args.run.looks + own_words (is_wide c.args.size)) + 10) _ (g.D.Dmi.seen c.run_loads.new.link) _ c.run_loads.ensures.rises
+    c.read_double-in-1.ensures.rises c.run_loads.ensures.keeps.fixed (omega arith))
+    c.read_apart.ensures.rises
+    (c.read_double-in-1.ensures.keeps.fixed ∙ c.run_loads.ensures.keeps.fixed) (omega arith)
+
+pub returns-in_err-x8-in-3-clause-rises : goal.returns-in_err-x8-in-3-clause-rises
+returns-in_err-x8-in-3-clause-rises g c =
+    within_then (c.args.run.more * (c.args.run.looks + own_words (is_wide c.args.size)) + 10) 8 (c.args.run.more * (c.args.run.looks + own_words (is_wide
+    c.args.size)) + 18) _ (g.D.Dmi.seen c.read_double-in-3.new.link) _ (within_then (c.args.run.more * (c.args.run.looks + own_words (is_wide c.args.size)) +
+    8) 2 (c.args.run.more * (c.args.run.looks + own_words (is_wide c.args.size)) + 10) _ (g.D.Dmi.seen c.run_loads.new.link) _ c.run_loads.ensures.rises
+    c.read_double-in-3.ensures.rises c.run_loads.ensures.keeps.fixed (omega arith))
+    c.read_apart-in-3.ensures.rises
+    (c.read_double-in-3.ensures.keeps.fixed ∙ c.run_loads.ensures.keeps.fixed) (omega arith)
+
+pub returns-in_default-made_of-2-clause-rises : goal.returns-in_default-made_of-2-clause-rises
+returns-in_default-made_of-2-clause-rises g c =
+    within_then (c.args.run.more * (c.args.run.looks + own_words (is_wide c.args.size)) + 10) 8 (c.args.run.more * (c.args.run.looks + own_words (is_wide
+    c.args.size)) + 18) _ (g.D.Dmi.seen c.read_double-in-3.new.link) _ (within_then (c.args.run.more * (c.args.run.looks + own_words (is_wide c.args.size)) +
+    8) 2 (c.args.run.more * (c.args.run.looks + own_words (is_wide c.args.size)) + 10) _ (g.D.Dmi.seen c.run_loads.new.link) _ c.run_loads.ensures.rises
+    c.read_double-in-3.ensures.rises c.run_loads.ensures.keeps.fixed (omega arith))
+    c.read_apart-in-3.ensures.rises
+    (c.read_double-in-3.ensures.keeps.fixed ∙ c.run_loads.ensures.keeps.fixed) (omega arith)
+
+pub returns-in-Some-made_of-clause-rises : goal.returns-in-Some-made_of-clause-rises
+returns-in-Some-made_of-clause-rises g c =
+    within_then (c.args.run.more * (c.args.run.looks + own_words (is_wide c.args.size)) + 10) 8 (c.args.run.more * (c.args.run.looks + own_words (is_wide
+    c.args.size)) + 18) _ (g.D.Dmi.seen c.read_double-in-3.new.link) _ (within_then (c.args.run.more * (c.args.run.looks + own_words (is_wide c.args.size)) +
+    8) 2 (c.args.run.more * (c.args.run.looks + own_words (is_wide c.args.size)) + 10) _ (g.D.Dmi.seen c.run_loads.new.link) _ c.run_loads.ensures.rises
+    c.read_double-in-3.ensures.rises c.run_loads.ensures.keeps.fixed (omega arith))
+    c.read_apart-in-3.ensures.rises
+    (c.read_double-in-3.ensures.keeps.fixed ∙ c.run_loads.ensures.keeps.fixed) (omega arith)
+
+pub returns-in_ok-value-in-0-clause-whole : goal.returns-in_ok-value-in-0-clause-whole
+returns-in_ok-value-in-0-clause-whole g c =
+    λ whole. hand_long c.args.size c.args.run.looks c.args.run.more c.in_ok-value-in-0.value c.args.into.now.items c.hand_out.new.into.items
+    (drop 2 c.deref.result.now) c.hand_out.ensures.handed
+
+pub returns-in-Some-clause-whole : goal.returns-in-Some-clause-whole
+returns-in-Some-clause-whole g c =
+    λ whole. absurd (false≢true whole)

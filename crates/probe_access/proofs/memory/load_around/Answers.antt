@@ -1,3 +1,4 @@
+use Rattle.debug_model.proofs.RiseLemmas.{within_then}
 use Rattle.std.proofs.Common.{◌∙◌, arith}
 use Rattle.probe_access.specs.MemoryRuns.LoadRunFailed.{in_save}
 use Rattle.probe_access.proofs.LoadCalls.{load_lost, load_not_taken, load_refused_at, load_refused_lost, perform_loses}
@@ -34,9 +35,35 @@ returns-in_default g c = record {
   failed = load_lost c.args.size c.args.address c.in_ok-x8.x8 _ _ _ _ _ _ c.in-Err.fault c.in_ok-x8.ensures.read c.read_register.ensures.keeps.later
       c.perform.ensures.keeps.later (rw c.load_of.ensures at c.in-Err.ensures.failed)
       (perform_loses _ c.args.address _ _ _ _ c.in-Err.fault c.in_default.not-Memory c.in-Err.ensures.failed);
+  rises = within_then 16 10 61 _ (g.D.Dmi.seen c.read_register.new.link) _ c.read_register.ensures.rises c.perform.ensures.rises
+      c.read_register.ensures.keeps.fixed (omega arith);
   keeps = record {
     later = omega (arith, c.read_register.ensures.keeps.later, c.perform.ensures.keeps.later);
     fixed = c.perform.ensures.keeps.fixed ∙ c.read_register.ensures.keeps.fixed;
     behind = c.in-Err.ensures.keeps.behind;
   };
 }
+
+pub returns-in_err-value-in-Ok-clause-rises : goal.returns-in_err-value-in-Ok-clause-rises
+returns-in_err-value-in-Ok-clause-rises g c =
+    within_then 26 35 61 _ (g.D.Dmi.seen c.perform.new.link) _ (within_then 16 10 26 _ (g.D.Dmi.seen c.read_register.new.link) _ c.read_register.ensures.rises c.perform.ensures.rises
+    c.read_register.ensures.keeps.fixed (omega arith)) c.take_loaded.ensures.rises
+    (c.perform.ensures.keeps.fixed ∙ c.read_register.ensures.keeps.fixed) (omega arith)
+
+pub returns-in_ok-value-in-Ok-clause-rises : goal.returns-in_ok-value-in-Ok-clause-rises
+returns-in_ok-value-in-Ok-clause-rises g c =
+    within_then 26 35 61 _ (g.D.Dmi.seen c.perform.new.link) _ (within_then 16 10 26 _ (g.D.Dmi.seen c.read_register.new.link) _ c.read_register.ensures.rises c.perform.ensures.rises
+    c.read_register.ensures.keeps.fixed (omega arith)) c.take_loaded.ensures.rises
+    (c.perform.ensures.keeps.fixed ∙ c.read_register.ensures.keeps.fixed) (omega arith)
+
+pub returns-in_err-write_register-in-Memory-clause-rises : goal.returns-in_err-write_register-in-Memory-clause-rises
+returns-in_err-write_register-in-Memory-clause-rises g c =
+    within_then 26 8 61 _ (g.D.Dmi.seen c.perform.new.link) _ (within_then 16 10 26 _ (g.D.Dmi.seen c.read_register.new.link) _ c.read_register.ensures.rises c.perform.ensures.rises
+    c.read_register.ensures.keeps.fixed (omega arith)) c.write_register.ensures.rises
+    (c.perform.ensures.keeps.fixed ∙ c.read_register.ensures.keeps.fixed) (omega arith)
+
+pub returns-in_ok-write_register-in-Memory-clause-rises : goal.returns-in_ok-write_register-in-Memory-clause-rises
+returns-in_ok-write_register-in-Memory-clause-rises g c =
+    within_then 26 8 61 _ (g.D.Dmi.seen c.perform.new.link) _ (within_then 16 10 26 _ (g.D.Dmi.seen c.read_register.new.link) _ c.read_register.ensures.rises c.perform.ensures.rises
+    c.read_register.ensures.keeps.fixed (omega arith)) c.write_register.ensures.rises
+    (c.perform.ensures.keeps.fixed ∙ c.read_register.ensures.keeps.fixed) (omega arith)

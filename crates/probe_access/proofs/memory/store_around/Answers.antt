@@ -1,4 +1,5 @@
-use Rattle.std.proofs.Common.{arith}
+use Rattle.debug_model.proofs.RiseLemmas.{within_then}
+use Rattle.std.proofs.Common.{arith, ◌∙◌}
 use Rattle.probe_access.specs.MemoryRuns.{StoreFailedInside, StoredInside}
 use Rattle.probe_access.specs.MemoryRuns.AroundFailed.{in_save}
 use Rattle.probe_access.proofs.AroundLemmas.{around_gave_up, around_restore}
@@ -25,3 +26,21 @@ returns-in-Err-clause-failed g c =
     (store_counted c.args.size c.args.address c.args.value _ _ _ _ _ c.in-Err.fault c.save_scratch.ensures.keeps.later c.store_inside.ensures.keeps.later
     c.in-Err.ensures.failed)
     (omega (arith, c.save_scratch.ensures.keeps.later, c.store_inside.ensures.keeps.later)) c.give_up.ensures.later c.give_up.ensures.gave_up
+
+pub returns-in_err-put_back-in-Ok-clause-rises : goal.returns-in_err-put_back-in-Ok-clause-rises
+returns-in_err-put_back-in-Ok-clause-rises g c =
+    within_then 50 16 66 _ (g.D.Dmi.seen c.store_inside.new.link) _ (within_then 32 18 50 _ (g.D.Dmi.seen c.save_scratch.new.link) _ c.save_scratch.ensures.rises c.store_inside.ensures.rises
+    c.save_scratch.ensures.keeps.fixed (omega arith)) c.put_back.ensures.rises
+    (c.store_inside.ensures.keeps.fixed ∙ c.save_scratch.ensures.keeps.fixed) (omega arith)
+
+pub returns-in_ok-put_back-in-Ok-clause-rises : goal.returns-in_ok-put_back-in-Ok-clause-rises
+returns-in_ok-put_back-in-Ok-clause-rises g c =
+    within_then 50 16 66 _ (g.D.Dmi.seen c.store_inside.new.link) _ (within_then 32 18 50 _ (g.D.Dmi.seen c.save_scratch.new.link) _ c.save_scratch.ensures.rises c.store_inside.ensures.rises
+    c.save_scratch.ensures.keeps.fixed (omega arith)) c.put_back.ensures.rises
+    (c.store_inside.ensures.keeps.fixed ∙ c.save_scratch.ensures.keeps.fixed) (omega arith)
+
+pub returns-in-Err-clause-rises : goal.returns-in-Err-clause-rises
+returns-in-Err-clause-rises g c =
+    within_then 50 16 66 _ (g.D.Dmi.seen c.store_inside.new.link) _ (within_then 32 18 50 _ (g.D.Dmi.seen c.save_scratch.new.link) _ c.save_scratch.ensures.rises c.store_inside.ensures.rises
+    c.save_scratch.ensures.keeps.fixed (omega arith)) c.give_up.ensures.rises
+    (c.store_inside.ensures.keeps.fixed ∙ c.save_scratch.ensures.keeps.fixed) (omega arith)

@@ -1,4 +1,5 @@
-use Rattle.std.proofs.Common.{arith}
+use Rattle.debug_model.proofs.RiseLemmas.{within_then}
+use Rattle.std.proofs.Common.{arith, ◌∙◌}
 use Rattle.probe_access.specs.MemoryRuns.TakeFailed.{reading, writing}
 use Rattle.probe_access.specs.MemoryRuns.Taken.{late}
 use Rattle.probe_access.specs.RegisterAccess.{x8_number}
@@ -27,3 +28,15 @@ pub returns-in_ok-write_register-in-None-clause-taken : goal.returns-in_ok-write
 returns-in_ok-write_register-in-None-clause-taken g c =
     late _ _ (swapped_early x8_number c.args.x8 c.in_ok-value.field-0 _ _ c.in-None.is c.in_ok-value.ensures.swapped) c.in_ok-value-in-None.ensures.read
     c.in_ok-write_register-in-None.ensures.written
+
+pub returns-in_err-write_register-in-None-clause-rises : goal.returns-in_err-write_register-in-None-clause-rises
+returns-in_err-write_register-in-None-clause-rises g c =
+    within_then 27 8 35 _ (g.D.Dmi.seen c.read_register.new.link) _ (within_then 11 16 27 _ (g.D.Dmi.seen c.swap_at_once.new.link) _ c.swap_at_once.ensures.rises c.read_register.ensures.rises
+    c.swap_at_once.ensures.keeps.fixed (omega arith)) c.write_register.ensures.rises
+    (c.read_register.ensures.keeps.fixed ∙ c.swap_at_once.ensures.keeps.fixed) (omega arith)
+
+pub returns-in_ok-write_register-in-None-clause-rises : goal.returns-in_ok-write_register-in-None-clause-rises
+returns-in_ok-write_register-in-None-clause-rises g c =
+    within_then 27 8 35 _ (g.D.Dmi.seen c.read_register.new.link) _ (within_then 11 16 27 _ (g.D.Dmi.seen c.swap_at_once.new.link) _ c.swap_at_once.ensures.rises c.read_register.ensures.rises
+    c.swap_at_once.ensures.keeps.fixed (omega arith)) c.write_register.ensures.rises
+    (c.read_register.ensures.keeps.fixed ∙ c.swap_at_once.ensures.keeps.fixed) (omega arith)

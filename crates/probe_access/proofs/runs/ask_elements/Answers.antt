@@ -1,4 +1,5 @@
-use Rattle.std.proofs.Common.{◌∙◌, All, List, ℕ, sym, subst, take}
+use Rattle.debug_model.proofs.RiseLemmas.{within_more, within_then}
+use Rattle.std.proofs.Common.{◌∙◌, All, List, ℕ, sym, subst, take, ◌≡◌, ◌+◌, ◌*◌, length, arith}
 use Rattle.debug_model.specs.Dmi.{IsOperation}
 use Rattle.probe_run.specs.Told.{told}
 use Rattle.probe_access.proofs.AskedCalls.{RunDid, filled_long, ops_small, run_broke, run_did, run_ended, run_failed}
@@ -38,3 +39,29 @@ returns-clause-asked g c =
     c.fill_run-filled.ensures.filled c.fill_run-filled.ensures.count)
     c.in_ok-many.ensures.operated c.in_ok-many.ensures.answers))
     c.in_ok-last.ensures.ended
+
+pub returns-in_err-many-clause-rises : goal.returns-in_err-many-clause-rises
+returns-in_err-many-clause-rises g c =
+    let e : length (take c.fill_run-filled.result c.fill_run-filled.new.operations) ≡ c.fill_run-filled.result =
+    filled_long c.args.run.looks c.args.run.more c.fill_run-filled.result c.fill_run-filled.new.operations c.fill_run-filled.ensures.filled
+    c.fill_run-filled.ensures.count in
+    within_more (length (take c.fill_run-filled.result c.fill_run-filled.new.operations)) (c.args.run.more * (c.args.run.looks + 1) + 7) _ _
+    c.many.ensures.rises (omega (arith, e, c.fill_run-filled.ensures.count))
+
+pub returns-in_err-last-clause-rises : goal.returns-in_err-last-clause-rises
+returns-in_err-last-clause-rises g c =
+    let e : length (take c.fill_run-filled.result c.fill_run-filled.new.operations) ≡ c.fill_run-filled.result =
+    filled_long c.args.run.looks c.args.run.more c.fill_run-filled.result c.fill_run-filled.new.operations c.fill_run-filled.ensures.filled
+    c.fill_run-filled.ensures.count in
+    within_then (length (take c.fill_run-filled.result c.fill_run-filled.new.operations)) 4 (c.args.run.more * (c.args.run.looks + 1) + 7) _ (g.D.Dmi.seen
+    c.many.new.self) _ c.many.ensures.rises c.end_command.ensures.rises
+    c.many.ensures.keeps.fixed (omega (arith, e, c.fill_run-filled.ensures.count))
+
+pub returns-clause-rises : goal.returns-clause-rises
+returns-clause-rises g c =
+    let e : length (take c.fill_run-filled.result c.fill_run-filled.new.operations) ≡ c.fill_run-filled.result =
+    filled_long c.args.run.looks c.args.run.more c.fill_run-filled.result c.fill_run-filled.new.operations c.fill_run-filled.ensures.filled
+    c.fill_run-filled.ensures.count in
+    within_then (length (take c.fill_run-filled.result c.fill_run-filled.new.operations)) 4 (c.args.run.more * (c.args.run.looks + 1) + 7) _ (g.D.Dmi.seen
+    c.many.new.self) _ c.many.ensures.rises c.end_command.ensures.rises
+    c.many.ensures.keeps.fixed (omega (arith, e, c.fill_run-filled.ensures.count))

@@ -1,4 +1,5 @@
-use Rattle.std.proofs.Common.{◌∙◌, ap, arith, refl}
+use Rattle.debug_model.proofs.RiseLemmas.{within_more, within_then}
+use Rattle.std.proofs.Common.{◌∙◌, ap, arith, refl, ◌+◌, ◌*◌}
 use Rattle.debug_model.specs.declared.abstractcs.Abstractcs.{Abstractcs}
 use Rattle.probe_run.specs.Told.{told}
 use Rattle.probe_access.specs.AskedRuns.RunFell.{asking, oddly}
@@ -32,3 +33,33 @@ returns-in_default-clause-fell g c =
     let is = ap (λ (s : Abstractcs). s.cmderr) c.from_word.ensures in
     oddly _ c.in_ok-last.last refl c.in_ok-last.ensures.asked (λ e. let f = is ∙ e in omega arith) (λ e. let f = is ∙ e in grind arith)
     (λ e. let f = is ∙ e in grind arith)
+
+pub returns-in_err-last-clause-rises : goal.returns-in_err-last-clause-rises
+returns-in_err-last-clause-rises g c =
+    within_more (c.args.run.more * (c.args.run.looks + 1) + 8) (c.args.run.more * (c.args.run.looks + 1) + 24) _ _ c.run_elements.ensures.rises (omega arith)
+
+pub returns-in-0-clause-rises : goal.returns-in-0-clause-rises
+returns-in-0-clause-rises g c =
+    within_more (c.args.run.more * (c.args.run.looks + 1) + 8) (c.args.run.more * (c.args.run.looks + 1) + 24) _ _ c.run_elements.ensures.rises (omega arith)
+
+pub returns-in_default-clause-rises : goal.returns-in_default-clause-rises
+returns-in_default-clause-rises g c =
+    within_more (c.args.run.more * (c.args.run.looks + 1) + 8) (c.args.run.more * (c.args.run.looks + 1) + 24) _ _ c.run_elements.ensures.rises (omega arith)
+
+pub returns-in_err-x8-in-1-clause-rises : goal.returns-in_err-x8-in-1-clause-rises
+returns-in_err-x8-in-1-clause-rises g c =
+    within_then (c.args.run.more * (c.args.run.looks + 1) + 8) 16 (c.args.run.more * (c.args.run.looks + 1) + 24) _ (g.D.Dmi.seen c.run_elements.new.link) _
+    c.run_elements.ensures.rises c.read_register.ensures.rises
+    c.run_elements.ensures.keeps.fixed (omega arith)
+
+pub returns-in_err-found-in-1-clause-rises : goal.returns-in_err-found-in-1-clause-rises
+returns-in_err-found-in-1-clause-rises g c =
+    within_then (c.args.run.more * (c.args.run.looks + 1) + 8) 16 (c.args.run.more * (c.args.run.looks + 1) + 24) _ (g.D.Dmi.seen c.run_elements.new.link) _
+    c.run_elements.ensures.rises c.read_register.ensures.rises
+    c.run_elements.ensures.keeps.fixed (omega arith)
+
+pub returns-in_ok-found-in-1-clause-rises : goal.returns-in_ok-found-in-1-clause-rises
+returns-in_ok-found-in-1-clause-rises g c =
+    within_then (c.args.run.more * (c.args.run.looks + 1) + 8) 16 (c.args.run.more * (c.args.run.looks + 1) + 24) _ (g.D.Dmi.seen c.run_elements.new.link) _
+    c.run_elements.ensures.rises c.read_register.ensures.rises
+    c.run_elements.ensures.keeps.fixed (omega arith)

@@ -1,3 +1,5 @@
+use Rattle.std.proofs.Common.{arith}
+use Rattle.debug_model.proofs.RiseLemmas.{within_more, within_then}
 use Rattle.probe_access.specs.StepRuns.StepFailed.{at_read, behind}
 use Rattle.probe_access.proofs.RegisterCalls.{err_failed}
 use Rattle.probe_access.proofs.StepClauses.{flag_left, from_counted}
@@ -47,3 +49,17 @@ returns-clause-stepped_at g c = read_step c.args.halted.number c.in_ok-word.word
 pub returns-clause-stepped : goal.returns-clause-stepped
 returns-clause-stepped g c =
     record { word = c.in_ok-word.word; mid = _; read = c.in_ok-word.ensures.read; steps = c.in_ok-again.ensures.stepped }
+
+pub returns-in_err-word-clause-rises : goal.returns-in_err-word-clause-rises
+returns-in_err-word-clause-rises g c =
+    within_more 15 49 _ _ c.read_dcsr.ensures.rises (omega arith)
+
+pub returns-in_err-again-clause-rises : goal.returns-in_err-again-clause-rises
+returns-in_err-again-clause-rises g c =
+    within_then 15 34 49 _ (g.D.Dmi.seen c.read_dcsr.new.link) _ c.read_dcsr.ensures.rises c.step_from.ensures.rises
+    c.read_dcsr.ensures.keeps.fixed (omega arith)
+
+pub returns-clause-rises : goal.returns-clause-rises
+returns-clause-rises g c =
+    within_then 15 34 49 _ (g.D.Dmi.seen c.read_dcsr.new.link) _ c.read_dcsr.ensures.rises c.step_from.ensures.rises
+    c.read_dcsr.ensures.keeps.fixed (omega arith)

@@ -1,8 +1,10 @@
+use Rattle.debug_model.proofs.RiseLemmas.{within_more, within_then}
+use Rattle.probe_access.proofs.StepRises.{flag_set}
 use Rattle.probe_access.specs.declared.fault.AccessFault.{AccessFault}
 use Rattle.probe_access.specs.BlockCuts.{MaybeFlagged}
 use Rattle.probe_access.specs.Cuts.{IfCut, LeftAside, Leaves}
 use Rattle.probe_access.proofs.BlockCutClauses.{clearing_cut, running_cut, setting_cut}
-use Rattle.std.proofs.Common.{◌≡◌, ℕ, subst, sym, arith, false, Option}
+use Rattle.std.proofs.Common.{◌≡◌, ℕ, subst, sym, arith, false, Option, ◌∙◌}
 use Rattle.debug_model.specs.Scan.{WhereTold}
 use Rattle.debug_model.specs.Told.{Far}
 use Rattle.probe_access.specs.SingleSteps.{FlaggedAt}
@@ -67,3 +69,27 @@ returns-in_err-clear_flag-clause-cut g c =
 
 pub set_flag-requires-clause-ebreakm : goal.set_flag-requires-clause-ebreakm
 set_flag-requires-clause-ebreakm g c = read_keeps c.args.halted.number c.args.word _ c.requires.reads
+
+pub returns-in_err-set_flag-clause-rises : goal.returns-in_err-set_flag-clause-rises
+returns-in_err-set_flag-clause-rises g c =
+    within_more 8 34 _ _ c.set_flag.ensures.rises (omega arith)
+
+pub returns-in_err-again-clause-rises : goal.returns-in_err-again-clause-rises
+returns-in_err-again-clause-rises g c =
+    within_then 8 3 34 _ (g.D.Dmi.seen c.set_flag.new.link) _ c.set_flag.ensures.rises
+    (c.run_one.ensures.soon (flag_set c.args.halted.number _ _ c.in_ok-set_flag.ensures.flagged_at))
+    c.set_flag.ensures.keeps.fixed (omega arith)
+
+pub returns-in_err-clear_flag-clause-rises : goal.returns-in_err-clear_flag-clause-rises
+returns-in_err-clear_flag-clause-rises g c =
+    within_then 11 23 34 _ (g.D.Dmi.seen c.run_one.new.link) _ (within_then 8 3 11 _ (g.D.Dmi.seen c.set_flag.new.link) _ c.set_flag.ensures.rises
+    (c.run_one.ensures.soon (flag_set c.args.halted.number _ _ c.in_ok-set_flag.ensures.flagged_at))
+    c.set_flag.ensures.keeps.fixed (omega arith))
+    c.clear_flag.ensures.rises (c.run_one.ensures.keeps.fixed ∙ c.set_flag.ensures.keeps.fixed) (omega arith)
+
+pub returns-clause-rises : goal.returns-clause-rises
+returns-clause-rises g c =
+    within_then 11 23 34 _ (g.D.Dmi.seen c.run_one.new.link) _ (within_then 8 3 11 _ (g.D.Dmi.seen c.set_flag.new.link) _ c.set_flag.ensures.rises
+    (c.run_one.ensures.soon (flag_set c.args.halted.number _ _ c.in_ok-set_flag.ensures.flagged_at))
+    c.set_flag.ensures.keeps.fixed (omega arith))
+    c.clear_flag.ensures.rises (c.run_one.ensures.keeps.fixed ∙ c.set_flag.ensures.keeps.fixed) (omega arith)

@@ -6,6 +6,7 @@ use Rattle.probe_run.proofs.ActLemmas.{if_err}
 use Rattle.probe_run.proofs.LoadedCalls.{loses_loaded, opens_loaded}
 use Rattle.probe_run.proofs.OpenedReady.{opened_ready, opened_selects}
 use Rattle.probe_run.proofs.OpeningLemmas.{opened_by}
+use Rattle.probe_run.proofs.Releases.{opened_release}
 use Rattle.probe_run.proofs.OpeningFails.{activation_fails, bus_fails, commands_fail, module_fails, transport_fails}
 use Rattle.probe_run.proofs.opening.connect.Goals as goal
 
@@ -195,6 +196,14 @@ returns-clause-release g c = record {
       c.in_ok-version.ensures.did.fits c.in_ok-check_commands.ensures.did c.in_ok-check_bus.ensures.did;
   release = c.in_ok-version.ensures.did.release ∙ ap Some (sym c.opened.ensures);
 }
+
+pub returns-clause-chip_release : goal.returns-clause-chip_release
+returns-clause-chip_release g c = opened_release c.opened.result.version (told (g.D.Dmi.seen c.args.link.now)) (told (g.D.Dmi.seen c.check_bus.new.link)) (record {
+  opened = opened_by (told (g.D.Dmi.seen c.args.link.now)) (told (g.D.Dmi.seen c.check_transport.new.link)) (told (g.D.Dmi.seen c.activate.new.link))
+      (told (g.D.Dmi.seen c.check_module.new.link)) (told (g.D.Dmi.seen c.check_commands.new.link)) (told (g.D.Dmi.seen c.check_bus.new.link)) c.in_ok-check_transport.ensures.did c.in_ok-activate.ensures.did
+      c.in_ok-version.ensures.did.fits c.in_ok-check_commands.ensures.did c.in_ok-check_bus.ensures.did;
+  release = c.in_ok-version.ensures.did.release ∙ ap Some (sym c.opened.ensures);
+})
 
 pub returns-clause-loaded : goal.returns-clause-loaded
 returns-clause-loaded g c =

@@ -1,5 +1,6 @@
 use Rattle.probe_run.specs.Told.{told}
-use Rattle.std.proofs.Common.{◌≡◌, ◌≤◌}
+use Rattle.std.proofs.Common.{◌≡◌, ◌≤◌, ◌*◌}
+use Rattle.debug_model.specs.Rises.{Within}
 use Rattle.probe_session.specs.Links.{AttachedHalted}
 use Rattle.probe_session.proofs.RegisterShow.{RegistersShown}
 use Rattle.probe_session.proofs.Selections.{Stays}
@@ -12,6 +13,7 @@ invariant-showing g l = record {
   shown : RegistersShown l.fn.halted.number l.x (told (g.D.Dmi.seen l.fn.link)) (told (g.D.Dmi.seen l.link)) (g.K.Sink.contents l.fn.out)
       (g.K.Sink.contents l.out);
   later : (g.D.Dmi.seen l.fn.link).fault_count ≤ (g.D.Dmi.seen l.link).fault_count;
+  rises : Within (16 * l.x) (g.D.Dmi.seen l.fn.link) (g.D.Dmi.seen l.link);
   fixed : (g.D.Dmi.seen l.link).fixed ≡ (g.D.Dmi.seen l.fn.link).fixed;
   sink_later : g.K.Sink.fault_count l.fn.out ≤ g.K.Sink.fault_count l.out;
 }

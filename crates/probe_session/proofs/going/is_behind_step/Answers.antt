@@ -1,3 +1,4 @@
+use Rattle.debug_model.proofs.RiseLemmas.{within_none}
 use Rattle.std.proofs.Common.{◌∙◌, refl, sym}
 use Rattle.probe_session.specs.Going.{StepSeen}
 use Rattle.probe_session.proofs.Knowing.{knows_step}
@@ -9,3 +10,7 @@ returns-then-is_stepped-clause-seen g c =
 
 pub returns-clause-seen : goal.returns-clause-seen
 returns-clause-seen g c = StepSeen.read c.in_ok-word.ensures.got (sym c.shows_step.ensures)
+
+pub returns-then-is_stepped-clause-rises : goal.returns-then-is_stepped-clause-rises
+returns-then-is_stepped-clause-rises g c =
+    within_none 16 _ _ refl

@@ -1,3 +1,5 @@
+use Rattle.std.proofs.Common.{arith}
+use Rattle.debug_model.proofs.RiseLemmas.{within_more, within_then}
 use Rattle.probe_session.specs.Commands.{ends_with, let_go}
 use Rattle.probe_session.specs.Said.{said_by}
 use Rattle.probe_session.proofs.GoingLines.{maybe_held, seen_as, unheld_to_go, word_falls}
@@ -26,3 +28,17 @@ pub returns-else-branch-clause-falls : goal.returns-else-branch-clause-falls
 returns-else-branch-clause-falls g c = err_then _ _ _
     (maybe_held c.args.halted.number (seen_as c.if-branch.false c.in_ok-is_behind_step.ensures.seen)) c.is_behind_step.ensures.keeps.later
     c.let_go_over_line.ensures.falls
+
+pub returns-in_err-is_behind_step-clause-rises : goal.returns-in_err-is_behind_step-clause-rises
+returns-in_err-is_behind_step-clause-rises g c =
+    within_more 16 795 _ _ c.is_behind_step.ensures.rises (omega arith)
+
+pub returns-then-branch-clause-rises : goal.returns-then-branch-clause-rises
+returns-then-branch-clause-rises g c =
+    within_then 16 2 795 _ (g.D.Dmi.seen c.is_behind_step.new.link) _ c.is_behind_step.ensures.rises c.free_line.ensures.rises
+    c.is_behind_step.ensures.keeps.fixed (omega arith)
+
+pub returns-else-branch-clause-rises : goal.returns-else-branch-clause-rises
+returns-else-branch-clause-rises g c =
+    within_then 16 779 795 _ (g.D.Dmi.seen c.is_behind_step.new.link) _ c.is_behind_step.ensures.rises c.let_go_over_line.ensures.rises
+    c.is_behind_step.ensures.keeps.fixed (omega arith)

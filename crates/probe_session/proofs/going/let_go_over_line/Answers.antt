@@ -1,3 +1,4 @@
+use Rattle.debug_model.proofs.RiseLemmas.{within_more, within_then}
 use Rattle.std.proofs.Common.{◌∙◌, sym, arith}
 use Rattle.probe_session.specs.Commands.{at_stop_line, ends_with}
 use Rattle.probe_session.specs.Said.{said_by}
@@ -69,3 +70,35 @@ pub returns-clause-keeps : goal.returns-clause-keeps
 returns-clause-keeps g c =
     goes_at c.in_ok-again.ensures.hart (omega (arith, c.slots.ensures.keeps.later, c.step_over.ensures.keeps.later, c.reg.ensures.keeps.later))
     (c.reg.ensures.keeps.fixed ∙ c.step_over.ensures.keeps.fixed ∙ c.slots.ensures.keeps.fixed) c.stop_line.ensures.keeps
+
+pub returns-in_err-seen-clause-rises : goal.returns-in_err-seen-clause-rises
+returns-in_err-seen-clause-rises g c =
+    within_more 184 779 _ _ c.slots.ensures.rises (omega arith)
+
+pub returns-then-not-has_any-clause-rises : goal.returns-then-not-has_any-clause-rises
+returns-then-not-has_any-clause-rises g c =
+    within_then 184 2 779 _ (g.D.Dmi.seen c.slots.new.link) _ c.slots.ensures.rises c.free_line.ensures.rises c.slots.ensures.keeps.fixed (omega arith)
+
+pub returns-in_err-again-clause-rises : goal.returns-in_err-again-clause-rises
+returns-in_err-again-clause-rises g c =
+    within_then 184 369 779 _ (g.D.Dmi.seen c.slots.new.link) _ c.slots.ensures.rises c.step_over.ensures.rises c.slots.ensures.keeps.fixed (omega arith)
+
+pub returns-in_err-word-clause-rises : goal.returns-in_err-word-clause-rises
+returns-in_err-word-clause-rises g c =
+    within_then 553 16 779 _ (g.D.Dmi.seen c.step_over.new.link) _ (within_then 184 369 553 _ (g.D.Dmi.seen c.slots.new.link) _ c.slots.ensures.rises
+    c.step_over.ensures.rises c.slots.ensures.keeps.fixed (omega arith)) c.reg.ensures.rises (c.step_over.ensures.keeps.fixed ∙ c.slots.ensures.keeps.fixed)
+    (omega arith)
+
+pub returns-then-shows_step-clause-rises : goal.returns-then-shows_step-clause-rises
+returns-then-shows_step-clause-rises g c =
+    within_then 569 2 779 _ (g.D.Dmi.seen c.reg.new.link) _ (within_then 553 16 569 _ (g.D.Dmi.seen c.step_over.new.link) _ (within_then 184 369 553 _
+    (g.D.Dmi.seen c.slots.new.link) _ c.slots.ensures.rises c.step_over.ensures.rises c.slots.ensures.keeps.fixed (omega arith)) c.reg.ensures.rises
+    (c.step_over.ensures.keeps.fixed ∙ c.slots.ensures.keeps.fixed) (omega arith)) c.free_line-then-shows_step.ensures.rises (c.reg.ensures.keeps.fixed ∙
+    c.step_over.ensures.keeps.fixed ∙ c.slots.ensures.keeps.fixed) (omega arith)
+
+pub returns-clause-rises : goal.returns-clause-rises
+returns-clause-rises g c =
+    within_then 569 210 779 _ (g.D.Dmi.seen c.reg.new.link) _ (within_then 553 16 569 _ (g.D.Dmi.seen c.step_over.new.link) _ (within_then 184 369 553 _
+    (g.D.Dmi.seen c.slots.new.link) _ c.slots.ensures.rises c.step_over.ensures.rises c.slots.ensures.keeps.fixed (omega arith)) c.reg.ensures.rises
+    (c.step_over.ensures.keeps.fixed ∙ c.slots.ensures.keeps.fixed) (omega arith)) c.stop_line.ensures.rises (c.reg.ensures.keeps.fixed ∙
+    c.step_over.ensures.keeps.fixed ∙ c.slots.ensures.keeps.fixed) (omega arith)

@@ -1,4 +1,5 @@
-use Rattle.std.proofs.Common.{◌∙◌, refl, sym, subst, arith}
+use Rattle.debug_model.proofs.RiseLemmas.{within_none, within_then}
+use Rattle.std.proofs.Common.{◌∙◌, ◌+◌, ◌*◌, refl, sym, subst, arith}
 use Rattle.probe_access.proofs.StepReads.{still_reads}
 use Rattle.probe_session.specs.Commands.{at_stop_line, ends_with}
 use Rattle.probe_session.specs.Links.{AttachedHalted}
@@ -16,6 +17,7 @@ stepping-init g c = record {
   serving = c.requires.serving;
   steps = stepping_none c.args.halted.number c.args.more _;
   later = omega arith;
+  rises = within_none 0 _ _ refl;
   fixed = refl;
 }
 
@@ -54,6 +56,9 @@ stepping-preserved g c = record {
       (sym c.shows_step.ensures ∙ c.if-not-shows_step.false) (got_at c.stepping.invariant.same c.in_ok-word.ensures.got))
       (made_at c.stepping.invariant.same c.in_ok-now.ensures.made);
   later = omega (arith, c.stepping.invariant.later, c.reg.ensures.keeps.later, c.step_from.ensures.keeps.later);
+  rises = within_then (50 * c.stepping._step + 16) 34 (50 * (c.stepping._step + 1)) _ (g.D.Dmi.seen c.reg.new.link) _
+      (within_then (50 * c.stepping._step) 16 (50 * c.stepping._step + 16) _ (g.D.Dmi.seen c.stepping.link) _ c.stepping.invariant.rises c.reg.ensures.rises
+      c.stepping.invariant.fixed (omega arith)) c.step_from.ensures.rises (c.reg.ensures.keeps.fixed ∙ c.stepping.invariant.fixed) (omega arith);
   fixed = c.step_from.ensures.keeps.fixed ∙ c.reg.ensures.keeps.fixed ∙ c.stepping.invariant.fixed;
 }
 
@@ -83,3 +88,28 @@ returns-clause-whole g c = whole_at _ _ c.stepping.invariant.same c.stop_line-2.
 pub step_from-requires-clause-reads : goal.step_from-requires-clause-reads
 step_from-requires-clause-reads g c =
     still_reads _ _ _ _ c.stepping.invariant.serving.serving.ready c.stepping.invariant.serving.serving.halted c.in_ok-word.ensures.got.told
+
+pub returns-in_err-word-clause-rises : goal.returns-in_err-word-clause-rises
+returns-in_err-word-clause-rises g c =
+    within_then (50 * c.stepping._step) 16 (50 * c.args.more + 210) _ (g.D.Dmi.seen c.stepping.link) _ c.stepping.invariant.rises c.reg.ensures.rises
+    c.stepping.invariant.fixed (omega (arith, c.stepping-test.true))
+
+pub returns-then-not-shows_step-clause-rises : goal.returns-then-not-shows_step-clause-rises
+returns-then-not-shows_step-clause-rises g c =
+    within_then (50 * c.stepping._step + 16) 210 (50 * c.args.more + 210) _ (g.D.Dmi.seen c.reg.new.link) _
+    (within_then (50 * c.stepping._step) 16 (50 * c.stepping._step + 16) _ (g.D.Dmi.seen c.stepping.link) _ c.stepping.invariant.rises c.reg.ensures.rises
+    c.stepping.invariant.fixed (omega arith)) c.stop_line.ensures.rises
+    (c.reg.ensures.keeps.fixed ∙ c.stepping.invariant.fixed) (omega (arith, c.stepping-test.true))
+
+pub returns-in_err-now-clause-rises : goal.returns-in_err-now-clause-rises
+returns-in_err-now-clause-rises g c =
+    within_then (50 * c.stepping._step + 16) 34 (50 * c.args.more + 210) _ (g.D.Dmi.seen c.reg.new.link) _
+    (within_then (50 * c.stepping._step) 16 (50 * c.stepping._step + 16) _ (g.D.Dmi.seen c.stepping.link) _ c.stepping.invariant.rises c.reg.ensures.rises
+    c.stepping.invariant.fixed (omega arith)) c.step_from.ensures.rises
+    (c.reg.ensures.keeps.fixed ∙ c.stepping.invariant.fixed) (omega (arith, c.stepping-test.true))
+
+pub returns-clause-rises : goal.returns-clause-rises
+returns-clause-rises g c =
+    within_then (50 * c.stepping._step) 210 (50 * c.args.more + 210) _ (g.D.Dmi.seen c.stepping.link) _ c.stepping.invariant.rises
+    c.stop_line-2.ensures.rises
+    c.stepping.invariant.fixed (omega arith)

@@ -1,3 +1,4 @@
+use Rattle.debug_model.proofs.RiseLemmas.{within_more, within_then}
 use Rattle.std.proofs.Common.{◌∙◌, refl, sym, arith}
 use Rattle.abstract_debugger.specs.Debugger.{one}
 use Rattle.probe_access.proofs.StepReads.{still_reads}
@@ -47,3 +48,19 @@ returns-else-shows_step-clause-falls g c = if_err_map _ _ _
 pub step_from-requires-clause-reads : goal.step_from-requires-clause-reads
 step_from-requires-clause-reads g c =
     still_reads c.args.halted.number _ _ _ c.requires.serving.serving.ready c.requires.serving.serving.halted c.in_ok-word.ensures.got.told
+
+pub returns-then-is_stepped-clause-rises : goal.returns-then-is_stepped-clause-rises
+returns-then-is_stepped-clause-rises g c =
+    within_more 49 385 _ _ c.step.ensures.rises (omega arith)
+
+pub returns-in_err-word-clause-rises : goal.returns-in_err-word-clause-rises
+returns-in_err-word-clause-rises g c =
+    within_more 16 385 _ _ c.reg.ensures.rises (omega arith)
+
+pub returns-then-shows_step-clause-rises : goal.returns-then-shows_step-clause-rises
+returns-then-shows_step-clause-rises g c =
+    within_then 16 34 385 _ (g.D.Dmi.seen c.reg.new.link) _ c.reg.ensures.rises c.step_from.ensures.rises c.reg.ensures.keeps.fixed (omega arith)
+
+pub returns-else-shows_step-clause-rises : goal.returns-else-shows_step-clause-rises
+returns-else-shows_step-clause-rises g c =
+    within_then 16 369 385 _ (g.D.Dmi.seen c.reg.new.link) _ c.reg.ensures.rises c.step_over.ensures.rises c.reg.ensures.keeps.fixed (omega arith)

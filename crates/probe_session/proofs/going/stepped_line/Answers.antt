@@ -1,4 +1,5 @@
-use Rattle.std.proofs.Common.{◌-◌, arith}
+use Rattle.debug_model.proofs.RiseLemmas.{within_more, within_then}
+use Rattle.std.proofs.Common.{◌-◌, ◌+◌, ◌*◌, arith}
 use Rattle.probe_session.specs.Commands.{ends_with}
 use Rattle.probe_session.specs.Going.{behind_first}
 use Rattle.probe_session.specs.Said.{said_by}
@@ -36,3 +37,16 @@ returns-clause-keeps g c =
 
 pub returns-clause-whole : goal.returns-clause-whole
 returns-clause-whole g c = whole_at _ _ c.in_ok-again.ensures.hart c.more_steps_line.ensures.whole
+
+pub returns-then-count-eq0-clause-rises : goal.returns-then-count-eq0-clause-rises
+returns-then-count-eq0-clause-rises g c =
+    within_more 210 (50 * c.args.count + 545) _ _ c.stop_line.ensures.rises (omega arith)
+
+pub returns-in_err-again-clause-rises : goal.returns-in_err-again-clause-rises
+returns-in_err-again-clause-rises g c =
+    within_more 385 (50 * c.args.count + 545) _ _ c.step_once.ensures.rises (omega arith)
+
+pub returns-clause-rises : goal.returns-clause-rises
+returns-clause-rises g c =
+    within_then 385 (50 * (c.args.count - 1) + 210) (50 * c.args.count + 545) _ (g.D.Dmi.seen c.step_once.new.link) _ c.step_once.ensures.rises
+    c.more_steps_line.ensures.rises c.step_once.ensures.keeps.fixed (omega (arith, c.if-count-eq0.false))

@@ -1,4 +1,5 @@
-use Rattle.std.proofs.Common.{refl, true}
+use Rattle.debug_model.proofs.RiseLemmas.{within_more, within_then}
+use Rattle.std.proofs.Common.{refl, true, arith}
 use Rattle.probe_session.specs.Failures.{failure_of_access}
 use Rattle.probe_session.proofs.Conversions.{became, of_register}
 use Rattle.probe_session.proofs.HartLines.{ebreak_falls, ebreak_said, ebreak_set_falls}
@@ -27,3 +28,15 @@ returns-in_err-set_reg-clause-falls g c =
 pub returns-clause-went : goal.returns-clause-went
 returns-clause-went g c = ebreak_said c.args.halted.now.number c.in_ok-word.word _ c.args.is_on c.in_ok-word.ensures.got c.with_ebreakm.ensures
     (record { heard = c.in_ok-set_reg.ensures.written; told = c.in_ok-set_reg.ensures.set_to })
+
+pub returns-in_err-word-clause-rises : goal.returns-in_err-word-clause-rises
+returns-in_err-word-clause-rises g c =
+    within_more 16 24 _ _ c.reg.ensures.rises (omega arith)
+
+pub returns-in_err-set_reg-clause-rises : goal.returns-in_err-set_reg-clause-rises
+returns-in_err-set_reg-clause-rises g c =
+    within_then 16 8 24 _ (g.D.Dmi.seen c.reg.new.link) _ c.reg.ensures.rises c.set_reg.ensures.rises c.reg.ensures.keeps.fixed (omega arith)
+
+pub returns-clause-rises : goal.returns-clause-rises
+returns-clause-rises g c =
+    within_then 16 8 24 _ (g.D.Dmi.seen c.reg.new.link) _ c.reg.ensures.rises c.set_reg.ensures.rises c.reg.ensures.keeps.fixed (omega arith)

@@ -1,4 +1,5 @@
-use Rattle.std.proofs.Common.{◌∙◌, sym}
+use Rattle.debug_model.proofs.RiseLemmas.{within_more, within_then}
+use Rattle.std.proofs.Common.{◌∙◌, sym, arith}
 use Rattle.probe_session.proofs.HartLines.{stop_falls, stop_plain, stop_trigger, stop_view_falls}
 use Rattle.probe_session.proofs.LinkLemmas.{if_err}
 use Rattle.probe_session.proofs.Whole.{says_found, says_trigger}
@@ -24,3 +25,19 @@ returns-then-at-number-clause-whole g c = λ shows. says_trigger c.in_ok-at.at.c
 pub returns-clause-whole : goal.returns-clause-whole
 returns-clause-whole g c = λ shows. says_found c.args.halted.now.number c.in_ok-at.at.pc c.in_ok-at.at.cause _ _ c.requires.serving.serving
     c.in_ok-at.ensures.keeps.behind.serving c.in_ok-at.ensures.found shows
+
+pub returns-in_err-at-clause-rises : goal.returns-in_err-at-clause-rises
+returns-in_err-at-clause-rises g c =
+    within_more 26 210 _ _ c.stop.ensures.rises (omega arith)
+
+pub returns-in_err-seen-clause-rises : goal.returns-in_err-seen-clause-rises
+returns-in_err-seen-clause-rises g c =
+    within_then 26 184 210 _ (g.D.Dmi.seen c.stop.new.link) _ c.stop.ensures.rises c.slots.ensures.rises c.stop.ensures.keeps.fixed (omega arith)
+
+pub returns-then-at-number-clause-rises : goal.returns-then-at-number-clause-rises
+returns-then-at-number-clause-rises g c =
+    within_then 26 184 210 _ (g.D.Dmi.seen c.stop.new.link) _ c.stop.ensures.rises c.slots.ensures.rises c.stop.ensures.keeps.fixed (omega arith)
+
+pub returns-clause-rises : goal.returns-clause-rises
+returns-clause-rises g c =
+    within_more 26 210 _ _ c.stop.ensures.rises (omega arith)

@@ -1,4 +1,5 @@
-use Rattle.std.proofs.Common.{arith, refl}
+use Rattle.debug_model.proofs.RiseLemmas.{within_more, within_then}
+use Rattle.std.proofs.Common.{arith, refl, ◌∙◌}
 use Rattle.probe_trig.specs.declared.change.Change.TheVariants.{Forget}
 use Rattle.probe_trig.specs.Runs.{ChangesAny}
 use Rattle.probe_session.specs.Commands.{ends_with}
@@ -54,3 +55,27 @@ pub returns-clause-falls : goal.returns-clause-falls
 returns-clause-falls g c =
     err_then _ _ _ (written c.args.halted.now.number c.args.number c.args.value c.requires.of c.if-number-eq-DPC.false
     (gave_true c.if-not-branch.false c.in_ok-set_reg_if_taken.ensures.gave)) c.set_reg_if_taken.ensures.keeps.later c.register_line-2.ensures.falls
+
+pub returns-in_err-set_reg_if_taken-clause-rises : goal.returns-in_err-set_reg_if_taken-clause-rises
+returns-in_err-set_reg_if_taken-clause-rises g c =
+    within_more 8 176 _ _ c.set_reg_if_taken.ensures.rises (omega arith)
+
+pub returns-then-not-branch-clause-rises : goal.returns-then-not-branch-clause-rises
+returns-then-not-branch-clause-rises g c =
+    within_more 8 176 _ _ c.set_reg_if_taken.ensures.rises (omega arith)
+
+pub returns-in_err-forget_hits-clause-rises : goal.returns-in_err-forget_hits-clause-rises
+returns-in_err-forget_hits-clause-rises g c =
+    within_then 8 152 176 _ (g.D.Dmi.seen c.set_reg_if_taken.new.link) _ c.set_reg_if_taken.ensures.rises c.forget_hits.ensures.rises
+    c.set_reg_if_taken.ensures.keeps.fixed (omega arith)
+
+pub returns-then-number-eq-DPC-clause-rises : goal.returns-then-number-eq-DPC-clause-rises
+returns-then-number-eq-DPC-clause-rises g c =
+    within_then 160 16 176 _ (g.D.Dmi.seen c.forget_hits.new.link) _ (within_then 8 152 160 _ (g.D.Dmi.seen c.set_reg_if_taken.new.link) _
+    c.set_reg_if_taken.ensures.rises c.forget_hits.ensures.rises c.set_reg_if_taken.ensures.keeps.fixed (omega arith)) c.register_line.ensures.rises
+    (c.forget_hits.ensures.keeps.fixed ∙ c.set_reg_if_taken.ensures.keeps.fixed) (omega arith)
+
+pub returns-clause-rises : goal.returns-clause-rises
+returns-clause-rises g c =
+    within_then 8 16 176 _ (g.D.Dmi.seen c.set_reg_if_taken.new.link) _ c.set_reg_if_taken.ensures.rises c.register_line-2.ensures.rises
+    c.set_reg_if_taken.ensures.keeps.fixed (omega arith)

@@ -1,4 +1,5 @@
-use Rattle.std.proofs.Common.{◌∙◌, refl, sym}
+use Rattle.debug_model.proofs.RiseLemmas.{within_more}
+use Rattle.std.proofs.Common.{◌∙◌, refl, sym, arith}
 use Rattle.probe_session.specs.Calls.LookUnheard.{again}
 use Rattle.probe_session.specs.Failures.{failure_of_run}
 use Rattle.probe_session.proofs.Knowing.{knows_selects}
@@ -20,3 +21,11 @@ pub returns-in_ok-look_again-clause-still : goal.returns-in_ok-look_again-clause
 returns-in_ok-look_again-clause-still g c =
     still_known c.args.known c.args.hart _ _ _ c.requires.knows c.in_ok-look_again.ensures.ready c.in_ok-look_again.ensures.selects
     c.in_ok-look_again.ensures.happened
+
+pub returns-in_err-look_again-clause-rises : goal.returns-in_err-look_again-clause-rises
+returns-in_err-look_again-clause-rises g c =
+    within_more 1 2 _ _ c.look_again.ensures.rises (omega arith)
+
+pub returns-in_ok-look_again-clause-rises : goal.returns-in_ok-look_again-clause-rises
+returns-in_ok-look_again-clause-rises g c =
+    within_more 1 2 _ _ c.look_again.ensures.rises (omega arith)

@@ -1,4 +1,6 @@
-use Rattle.std.proofs.Common.{rules}
+use Rattle.probe_access.specs.BlockRises.{load_rises}
+use Rattle.debug_model.proofs.RiseLemmas.{within_none}
+use Rattle.std.proofs.Common.{rules, refl}
 use Rattle.std.proofs.Common.{◌∙◌, sym}
 use Rattle.jt_base.proofs.FaultLemmas.{rises_from}
 use Rattle.probe_session.proofs.LinkLemmas.{if_err}
@@ -56,3 +58,11 @@ returns-clause-spoke g c = elements_refused c.args.reach.now c.args.size c.args.
 
 pub returns-then-not-is_aligned-clause-selection : goal.returns-then-not-is_aligned-clause-selection
 returns-then-not-is_aligned-clause-selection g c = stays_here _
+
+pub returns-in_err-put_line-clause-rises : goal.returns-in_err-put_line-clause-rises
+returns-in_err-put_line-clause-rises g c =
+    within_none (load_rises c.args.count) _ _ refl
+
+pub returns-then-not-is_aligned-clause-rises : goal.returns-then-not-is_aligned-clause-rises
+returns-then-not-is_aligned-clause-rises g c =
+    within_none (load_rises c.args.count) _ _ refl

@@ -1,3 +1,6 @@
+use Rattle.probe_session.proofs.Budgets.{shown_rises_as}
+use Rattle.std.proofs.Common.{refl}
+use Rattle.debug_model.proofs.RiseLemmas.{within_none}
 use Rattle.abstract_debugger.specs.Plan.{Plan}
 use Rattle.probe_session.specs.Said.{said_by}
 use Rattle.probe_session.proofs.LinkLemmas.{if_err}
@@ -50,3 +53,35 @@ returns-in-Elements-clause-line g c = ok_line_of _ _ c.in-Elements.is tt
 
 pub returns-in-Bytes-clause-line : goal.returns-in-Bytes-clause-line
 returns-in-Bytes-clause-line g c = ok_line_of _ _ c.in-Bytes.is tt
+
+pub returns-in_err-put_line-in-Line-clause-rises : goal.returns-in_err-put_line-in-Line-clause-rises
+returns-in_err-put_line-in-Line-clause-rises g c =
+    shown_rises_as c.in-Line.is (within_none 0 _ _ refl)
+
+pub returns-in_ok-put_line-in-Line-clause-rises : goal.returns-in_ok-put_line-in-Line-clause-rises
+returns-in_ok-put_line-in-Line-clause-rises g c =
+    shown_rises_as c.in-Line.is (within_none 0 _ _ refl)
+
+pub returns-in_err-put_registers-in-Registers-clause-rises : goal.returns-in_err-put_registers-in-Registers-clause-rises
+returns-in_err-put_registers-in-Registers-clause-rises g c =
+    shown_rises_as c.in-Registers.is c.put_registers.ensures.rises
+
+pub returns-in_ok-put_registers-in-Registers-clause-rises : goal.returns-in_ok-put_registers-in-Registers-clause-rises
+returns-in_ok-put_registers-in-Registers-clause-rises g c =
+    shown_rises_as c.in-Registers.is c.put_registers.ensures.rises
+
+pub returns-in_err-put_slots-in-Slots-clause-rises : goal.returns-in_err-put_slots-in-Slots-clause-rises
+returns-in_err-put_slots-in-Slots-clause-rises g c =
+    shown_rises_as c.in-Slots.is c.put_slots.ensures.rises
+
+pub returns-in_ok-put_slots-in-Slots-clause-rises : goal.returns-in_ok-put_slots-in-Slots-clause-rises
+returns-in_ok-put_slots-in-Slots-clause-rises g c =
+    shown_rises_as c.in-Slots.is c.put_slots.ensures.rises
+
+pub returns-in-Elements-clause-rises : goal.returns-in-Elements-clause-rises
+returns-in-Elements-clause-rises g c =
+    shown_rises_as c.in-Elements.is c.put_elements.ensures.rises
+
+pub returns-in-Bytes-clause-rises : goal.returns-in-Bytes-clause-rises
+returns-in-Bytes-clause-rises g c =
+    shown_rises_as c.in-Bytes.is c.put_rows.ensures.rises

@@ -1,4 +1,6 @@
-use Rattle.std.proofs.Common.{rules}
+use Rattle.probe_access.specs.BlockRises.{store_rises}
+use Rattle.debug_model.proofs.RiseLemmas.{within_none}
+use Rattle.std.proofs.Common.{rules, refl}
 use Rattle.std.proofs.Common.{◌∙◌, sym}
 use Rattle.probe_session.proofs.LinkLemmas.{if_err}
 use Rattle.probe_session.proofs.MemoryLines.{attached_by, write_falls, write_misaligned, write_refused, wrote_all}
@@ -31,3 +33,7 @@ returns-in-Some-clause-keeps g c = let b = attached_by c.args.reach.now _ c.in_o
 
 pub returns-then-not-is_aligned-clause-selection : goal.returns-then-not-is_aligned-clause-selection
 returns-then-not-is_aligned-clause-selection g c = stays_here _
+
+pub returns-then-not-is_aligned-clause-rises : goal.returns-then-not-is_aligned-clause-rises
+returns-then-not-is_aligned-clause-rises g c =
+    within_none (store_rises c.args.count) _ _ refl

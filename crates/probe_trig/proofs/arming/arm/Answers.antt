@@ -35,3 +35,8 @@ returns-in_err-slot-clause-cut g c =
     if_err _ c.from_residual.result _ c.from_residual.ensures.1
     (failed_cut _ c.args.halted.now.number _ _ _ _ _ c.in_err-slot.field-0.0 c.requires.serving.ready c.requires.serving.halted
     c.in_err-slot.ensures.failed)
+
+pub returns-in_err-slot-clause-refuses : goal.returns-in_err-slot-clause-refuses
+returns-in_err-slot-clause-refuses g c =
+    if_err _ c.from_residual.result _ c.from_residual.ensures.1
+    (c.in_err-slot.ensures.refuses)

@@ -1,4 +1,6 @@
-use Rattle.std.proofs.Common.{◌≡◌, ◌∙◌, [], ◌∷◌, ap}
+use Rattle.debug_model.proofs.RiseLemmas.{within_more, within_then}
+use Rattle.probe_trig.proofs.Refusals.{of_tdata1}
+use Rattle.std.proofs.Common.{◌≡◌, ◌∙◌, [], ◌∷◌, ap, arith}
 use Rattle.rv_model.specs.TriggerWords.{tdata1_of}
 use Rattle.probe_trig.specs.declared.register.TriggerRegister.TheVariants.{Tdata1}
 use Rattle.probe_trig.specs.Runs.{address_set}
@@ -27,3 +29,27 @@ returns-clause-made g c =
     made_then c.args.halted.now.number (address_set (address_named c.args.what))
     (Set Tdata1 (word_named c.args.version c.args.what) ∷ []) _ _ _ c.in_ok-set_address.ensures.made
     (rw (word_is) at c.in_ok-set_reg.ensures.made)
+
+pub returns-in_err-set_address-clause-rises : goal.returns-in_err-set_address-clause-rises
+returns-in_err-set_address-clause-rises g c =
+    within_more 8 16 _ _ c.set_address.ensures.rises (omega arith)
+
+pub returns-in_err-set_reg-clause-rises : goal.returns-in_err-set_reg-clause-rises
+returns-in_err-set_reg-clause-rises g c =
+    within_then 8 8 16 _ (g.D.Dmi.seen c.set_address.new.link) _ c.set_address.ensures.rises c.set_reg.ensures.rises
+    c.set_address.ensures.keeps.fixed (omega arith)
+
+pub returns-clause-rises : goal.returns-clause-rises
+returns-clause-rises g c =
+    within_then 8 8 16 _ (g.D.Dmi.seen c.set_address.new.link) _ c.set_address.ensures.rises c.set_reg.ensures.rises
+    c.set_address.ensures.keeps.fixed (omega arith)
+
+pub returns-in_err-set_address-clause-refuses : goal.returns-in_err-set_address-clause-refuses
+returns-in_err-set_address-clause-refuses g c =
+    if_err _ c.from_residual.result _ c.from_residual.ensures.1
+    (c.in_err-set_address.ensures.refuses)
+
+pub returns-in_err-set_reg-clause-refuses : goal.returns-in_err-set_reg-clause-refuses
+returns-in_err-set_reg-clause-refuses g c =
+    if_err _ c.from_residual-in_err-set_reg.result _ c.from_residual-in_err-set_reg.ensures.1
+    (of_tdata1 _ c.in_err-set_reg.ensures.refuses)

@@ -1,4 +1,6 @@
-use Rattle.std.proofs.Common.{[], ◌∷◌, ◌++◌, Some, None, arith}
+use Rattle.debug_model.proofs.RiseLemmas.{within_more, within_then}
+use Rattle.probe_trig.proofs.Refusals.{of_tselect}
+use Rattle.std.proofs.Common.{[], ◌∷◌, ◌++◌, Some, None, arith, ◌∙◌}
 use Rattle.probe_trig.specs.declared.register.TriggerRegister.TheVariants.{Tselect}
 use Rattle.probe_trig.specs.Runs.{armed}
 use Rattle.probe_trig.specs.Transfers.Transfer.{Got}
@@ -56,3 +58,69 @@ pub returns-in_ok-set_reg-in-None-clause-did : goal.returns-in_ok-set_reg-in-Non
 returns-in_ok-set_reg-in-None-clause-did g c =
     none_did c.args.halted.now.version c.args.what c.in_ok-kept.kept c.args.halted.now.number _ _ _ _ c.in_ok-kept.ensures.made
     (rw (c.in-None.is) at c.in_ok-slot.ensures.did) c.in_ok-set_reg-in-None.ensures.made
+
+pub returns-in_err-kept-clause-rises : goal.returns-in_err-kept-clause-rises
+returns-in_err-kept-clause-rises g c =
+    within_more 16 152 _ _ c.reg.ensures.rises (omega arith)
+
+pub returns-in_err-slot-clause-rises : goal.returns-in_err-slot-clause-rises
+returns-in_err-slot-clause-rises g c =
+    within_then 16 96 152 _ (g.D.Dmi.seen c.reg.new.link) _ c.reg.ensures.rises c.seek_free.ensures.rises
+    c.reg.ensures.keeps.fixed (omega arith)
+
+pub returns-in_err-arm_selected-in-Some-clause-rises : goal.returns-in_err-arm_selected-in-Some-clause-rises
+returns-in_err-arm_selected-in-Some-clause-rises g c =
+    within_then 112 32 152 _ (g.D.Dmi.seen c.seek_free.new.link) _ (within_then 16 96 112 _ (g.D.Dmi.seen c.reg.new.link) _ c.reg.ensures.rises c.seek_free.ensures.rises
+    c.reg.ensures.keeps.fixed (omega arith)) c.arm_selected.ensures.rises
+    (c.seek_free.ensures.keeps.fixed ∙ c.reg.ensures.keeps.fixed) (omega arith)
+
+pub returns-in_err-set_reg-in-Some-clause-rises : goal.returns-in_err-set_reg-in-Some-clause-rises
+returns-in_err-set_reg-in-Some-clause-rises g c =
+    within_then 144 8 152 _ (g.D.Dmi.seen c.arm_selected.new.link) _ (within_then 112 32 144 _ (g.D.Dmi.seen c.seek_free.new.link) _ (within_then 16 96 112 _ (g.D.Dmi.seen c.reg.new.link) _ c.reg.ensures.rises c.seek_free.ensures.rises
+    c.reg.ensures.keeps.fixed (omega arith)) c.arm_selected.ensures.rises
+    (c.seek_free.ensures.keeps.fixed ∙ c.reg.ensures.keeps.fixed) (omega arith)) c.set_reg.ensures.rises
+    (c.arm_selected.ensures.keeps.fixed ∙ c.seek_free.ensures.keeps.fixed ∙ c.reg.ensures.keeps.fixed) (omega arith)
+
+pub returns-in_ok-set_reg-in-Some-clause-rises : goal.returns-in_ok-set_reg-in-Some-clause-rises
+returns-in_ok-set_reg-in-Some-clause-rises g c =
+    within_then 144 8 152 _ (g.D.Dmi.seen c.arm_selected.new.link) _ (within_then 112 32 144 _ (g.D.Dmi.seen c.seek_free.new.link) _ (within_then 16 96 112 _ (g.D.Dmi.seen c.reg.new.link) _ c.reg.ensures.rises c.seek_free.ensures.rises
+    c.reg.ensures.keeps.fixed (omega arith)) c.arm_selected.ensures.rises
+    (c.seek_free.ensures.keeps.fixed ∙ c.reg.ensures.keeps.fixed) (omega arith)) c.set_reg.ensures.rises
+    (c.arm_selected.ensures.keeps.fixed ∙ c.seek_free.ensures.keeps.fixed ∙ c.reg.ensures.keeps.fixed) (omega arith)
+
+pub returns-in_err-set_reg-in-None-clause-rises : goal.returns-in_err-set_reg-in-None-clause-rises
+returns-in_err-set_reg-in-None-clause-rises g c =
+    within_then 112 8 152 _ (g.D.Dmi.seen c.seek_free.new.link) _ (within_then 16 96 112 _ (g.D.Dmi.seen c.reg.new.link) _ c.reg.ensures.rises c.seek_free.ensures.rises
+    c.reg.ensures.keeps.fixed (omega arith)) c.set_reg-in-None.ensures.rises
+    (c.seek_free.ensures.keeps.fixed ∙ c.reg.ensures.keeps.fixed) (omega arith)
+
+pub returns-in_ok-set_reg-in-None-clause-rises : goal.returns-in_ok-set_reg-in-None-clause-rises
+returns-in_ok-set_reg-in-None-clause-rises g c =
+    within_then 112 8 152 _ (g.D.Dmi.seen c.seek_free.new.link) _ (within_then 16 96 112 _ (g.D.Dmi.seen c.reg.new.link) _ c.reg.ensures.rises c.seek_free.ensures.rises
+    c.reg.ensures.keeps.fixed (omega arith)) c.set_reg-in-None.ensures.rises
+    (c.seek_free.ensures.keeps.fixed ∙ c.reg.ensures.keeps.fixed) (omega arith)
+
+pub returns-in_err-kept-clause-refuses : goal.returns-in_err-kept-clause-refuses
+returns-in_err-kept-clause-refuses g c =
+    if_err _ c.from_residual.result _ c.from_residual.ensures.1
+    (of_tselect _ c.in_err-kept.ensures.refuses)
+
+pub returns-in_err-slot-clause-refuses : goal.returns-in_err-slot-clause-refuses
+returns-in_err-slot-clause-refuses g c =
+    if_err _ c.from_residual-in_err-slot.result _ c.from_residual-in_err-slot.ensures.1
+    (c.in_err-slot.ensures.refuses)
+
+pub returns-in_err-arm_selected-in-Some-clause-refuses : goal.returns-in_err-arm_selected-in-Some-clause-refuses
+returns-in_err-arm_selected-in-Some-clause-refuses g c =
+    if_err _ c.from_residual-in_err-arm_selected-in-Some.result _ c.from_residual-in_err-arm_selected-in-Some.ensures.1
+    (c.in_err-arm_selected-in-Some.ensures.refuses)
+
+pub returns-in_err-set_reg-in-Some-clause-refuses : goal.returns-in_err-set_reg-in-Some-clause-refuses
+returns-in_err-set_reg-in-Some-clause-refuses g c =
+    if_err _ c.from_residual-in_err-set_reg-in-Some.result _ c.from_residual-in_err-set_reg-in-Some.ensures.1
+    (of_tselect _ c.in_err-set_reg-in-Some.ensures.refuses)
+
+pub returns-in_err-set_reg-in-None-clause-refuses : goal.returns-in_err-set_reg-in-None-clause-refuses
+returns-in_err-set_reg-in-None-clause-refuses g c =
+    if_err _ c.from_residual-in_err-set_reg-in-None.result _ c.from_residual-in_err-set_reg-in-None.ensures.1
+    (of_tselect _ c.in_err-set_reg-in-None.ensures.refuses)

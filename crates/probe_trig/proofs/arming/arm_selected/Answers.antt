@@ -1,4 +1,6 @@
-use Rattle.std.proofs.Common.{ap, ◌∙◌}
+use Rattle.debug_model.proofs.RiseLemmas.{within_more, within_then}
+use Rattle.probe_trig.proofs.Refusals.{refuses_any}
+use Rattle.std.proofs.Common.{ap, ◌∙◌, arith}
 use Rattle.probe_trig.specs.declared.register.TriggerRegister.TheVariants.{Tinfo}
 use Rattle.probe_trig.specs.Runs.{arming_version}
 use Rattle.probe_trig.specs.Transfers.{asked}
@@ -24,3 +26,27 @@ returns-clause-did g c =
     let e = c.arming_version.ensures ∙ ap (λ v. arming_version v c.in_ok-tinfo.tinfo) c.version.ensures in
     offered_did c.args.halted.now.version c.args.what c.in_ok-tinfo.tinfo c.args.halted.now.number _ _ _ c.in_ok-tinfo.ensures.made
     (rw e at c.in_ok-arm_by.ensures.made)
+
+pub returns-in_err-tinfo-clause-rises : goal.returns-in_err-tinfo-clause-rises
+returns-in_err-tinfo-clause-rises g c =
+    within_more 16 32 _ _ c.reg_or_none.ensures.rises (omega arith)
+
+pub returns-in_err-arm_by-clause-rises : goal.returns-in_err-arm_by-clause-rises
+returns-in_err-arm_by-clause-rises g c =
+    within_then 16 16 32 _ (g.D.Dmi.seen c.reg_or_none.new.link) _ c.reg_or_none.ensures.rises c.arm_by.ensures.rises
+    c.reg_or_none.ensures.keeps.fixed (omega arith)
+
+pub returns-clause-rises : goal.returns-clause-rises
+returns-clause-rises g c =
+    within_then 16 16 32 _ (g.D.Dmi.seen c.reg_or_none.new.link) _ c.reg_or_none.ensures.rises c.arm_by.ensures.rises
+    c.reg_or_none.ensures.keeps.fixed (omega arith)
+
+pub returns-in_err-tinfo-clause-refuses : goal.returns-in_err-tinfo-clause-refuses
+returns-in_err-tinfo-clause-refuses g c =
+    if_err _ c.from_residual.result _ c.from_residual.ensures.1
+    (refuses_any _ c.in_err-tinfo.ensures.refuses)
+
+pub returns-in_err-arm_by-clause-refuses : goal.returns-in_err-arm_by-clause-refuses
+returns-in_err-arm_by-clause-refuses g c =
+    if_err _ c.from_residual-in_err-arm_by.result _ c.from_residual-in_err-arm_by.ensures.1
+    (c.in_err-arm_by.ensures.refuses)

@@ -1,3 +1,4 @@
+use Rattle.debug_model.proofs.RiseLemmas.{within_more, within_then}
 use Rattle.std.proofs.Common.{[], ◌∷◌, ◌++◌, ◌∙◌, false, refl, sym, arith}
 use Rattle.probe_trig.specs.declared.register.TriggerRegister.TheVariants.{Tselect}
 use Rattle.probe_trig.specs.Runs.{freed, put_back, word_read}
@@ -68,3 +69,44 @@ returns-clause-did g c = record {
       (made_then c.args.halted.now.number (freed false) (put_back c.in_ok-kept.kept) _ _ _
       c.in_ok-set_reg-2.ensures.made c.in_ok-set_reg-3.ensures.made));
 }
+
+pub returns-in_err-kept-clause-rises : goal.returns-in_err-kept-clause-rises
+returns-in_err-kept-clause-rises g c =
+    within_more 16 56 _ _ c.reg.ensures.rises (omega arith)
+
+pub returns-in_err-tdata1-clause-rises : goal.returns-in_err-tdata1-clause-rises
+returns-in_err-tdata1-clause-rises g c =
+    within_then 16 24 56 _ (g.D.Dmi.seen c.reg.new.link) _ c.reg.ensures.rises c.read_word.ensures.rises
+    c.reg.ensures.keeps.fixed (omega arith)
+
+pub returns-in_err-set_reg-clause-rises : goal.returns-in_err-set_reg-clause-rises
+returns-in_err-set_reg-clause-rises g c =
+    within_then 40 8 56 _ (g.D.Dmi.seen c.read_word.new.link) _ (within_then 16 24 40 _ (g.D.Dmi.seen c.reg.new.link) _ c.reg.ensures.rises c.read_word.ensures.rises
+    c.reg.ensures.keeps.fixed (omega arith)) c.set_reg.ensures.rises
+    (c.read_word.ensures.keeps.fixed ∙ c.reg.ensures.keeps.fixed) (omega arith)
+
+pub returns-then-shows_free-clause-rises : goal.returns-then-shows_free-clause-rises
+returns-then-shows_free-clause-rises g c =
+    within_then 40 8 56 _ (g.D.Dmi.seen c.read_word.new.link) _ (within_then 16 24 40 _ (g.D.Dmi.seen c.reg.new.link) _ c.reg.ensures.rises c.read_word.ensures.rises
+    c.reg.ensures.keeps.fixed (omega arith)) c.set_reg.ensures.rises
+    (c.read_word.ensures.keeps.fixed ∙ c.reg.ensures.keeps.fixed) (omega arith)
+
+pub returns-in_err-set_reg-2-clause-rises : goal.returns-in_err-set_reg-2-clause-rises
+returns-in_err-set_reg-2-clause-rises g c =
+    within_then 40 8 56 _ (g.D.Dmi.seen c.read_word.new.link) _ (within_then 16 24 40 _ (g.D.Dmi.seen c.reg.new.link) _ c.reg.ensures.rises c.read_word.ensures.rises
+    c.reg.ensures.keeps.fixed (omega arith)) c.set_reg-2.ensures.rises
+    (c.read_word.ensures.keeps.fixed ∙ c.reg.ensures.keeps.fixed) (omega arith)
+
+pub returns-in_err-set_reg-3-clause-rises : goal.returns-in_err-set_reg-3-clause-rises
+returns-in_err-set_reg-3-clause-rises g c =
+    within_then 48 8 56 _ (g.D.Dmi.seen c.set_reg-2.new.link) _ (within_then 40 8 48 _ (g.D.Dmi.seen c.read_word.new.link) _ (within_then 16 24 40 _ (g.D.Dmi.seen c.reg.new.link) _ c.reg.ensures.rises c.read_word.ensures.rises
+    c.reg.ensures.keeps.fixed (omega arith)) c.set_reg-2.ensures.rises
+    (c.read_word.ensures.keeps.fixed ∙ c.reg.ensures.keeps.fixed) (omega arith)) c.set_reg-3.ensures.rises
+    (c.set_reg-2.ensures.keeps.fixed ∙ c.read_word.ensures.keeps.fixed ∙ c.reg.ensures.keeps.fixed) (omega arith)
+
+pub returns-clause-rises : goal.returns-clause-rises
+returns-clause-rises g c =
+    within_then 48 8 56 _ (g.D.Dmi.seen c.set_reg-2.new.link) _ (within_then 40 8 48 _ (g.D.Dmi.seen c.read_word.new.link) _ (within_then 16 24 40 _ (g.D.Dmi.seen c.reg.new.link) _ c.reg.ensures.rises c.read_word.ensures.rises
+    c.reg.ensures.keeps.fixed (omega arith)) c.set_reg-2.ensures.rises
+    (c.read_word.ensures.keeps.fixed ∙ c.reg.ensures.keeps.fixed) (omega arith)) c.set_reg-3.ensures.rises
+    (c.set_reg-2.ensures.keeps.fixed ∙ c.read_word.ensures.keeps.fixed ∙ c.reg.ensures.keeps.fixed) (omega arith)

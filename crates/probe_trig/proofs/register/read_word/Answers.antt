@@ -1,4 +1,6 @@
-use Rattle.std.proofs.Common.{[], ◌∷◌}
+use Rattle.debug_model.proofs.RiseLemmas.{within_more, within_then}
+use Rattle.probe_trig.proofs.Refusals.{of_tdata1, of_tselect}
+use Rattle.std.proofs.Common.{[], ◌∷◌, arith}
 use Rattle.probe_trig.specs.declared.register.TriggerRegister.TheVariants.{Tselect, Tdata1}
 use Rattle.probe_trig.specs.Transfers.Transfer.{Got, Set}
 use Rattle.probe_trig.proofs.Fitting.{word_gets, word_selects}
@@ -21,3 +23,27 @@ pub returns-clause-made : goal.returns-clause-made
 returns-clause-made g c =
     made_then c.args.halted.now.number (Set Tselect c.args.slot ∷ []) (Got Tdata1 c.in_ok-tdata1.tdata1 ∷ []) _ _ _
     (rw (c.from.ensures) at c.in_ok-set_reg.ensures.made) c.in_ok-tdata1.ensures.made
+
+pub returns-in_err-set_reg-clause-rises : goal.returns-in_err-set_reg-clause-rises
+returns-in_err-set_reg-clause-rises g c =
+    within_more 8 24 _ _ c.set_reg.ensures.rises (omega arith)
+
+pub returns-in_err-tdata1-clause-rises : goal.returns-in_err-tdata1-clause-rises
+returns-in_err-tdata1-clause-rises g c =
+    within_then 8 16 24 _ (g.D.Dmi.seen c.set_reg.new.link) _ c.set_reg.ensures.rises c.reg.ensures.rises
+    c.set_reg.ensures.keeps.fixed (omega arith)
+
+pub returns-clause-rises : goal.returns-clause-rises
+returns-clause-rises g c =
+    within_then 8 16 24 _ (g.D.Dmi.seen c.set_reg.new.link) _ c.set_reg.ensures.rises c.reg.ensures.rises
+    c.set_reg.ensures.keeps.fixed (omega arith)
+
+pub returns-in_err-set_reg-clause-refuses : goal.returns-in_err-set_reg-clause-refuses
+returns-in_err-set_reg-clause-refuses g c =
+    if_err _ c.from_residual.result _ c.from_residual.ensures.1
+    (of_tselect _ c.in_err-set_reg.ensures.refuses)
+
+pub returns-in_err-tdata1-clause-refuses : goal.returns-in_err-tdata1-clause-refuses
+returns-in_err-tdata1-clause-refuses g c =
+    if_err _ c.from_residual-in_err-tdata1.result _ c.from_residual-in_err-tdata1.ensures.1
+    (of_tdata1 _ c.in_err-tdata1.ensures.refuses)

@@ -1,3 +1,4 @@
+use Rattle.probe_trig.proofs.Refusals.{read_refuses}
 use Rattle.std.proofs.Common.{◌∙◌, ap}
 use Rattle.probe_access.specs.Pending.{is_mip}
 use Rattle.probe_run.proofs.ActLemmas.{if_err}
@@ -19,3 +20,8 @@ returns-clause-made g c =
     let e = c.number.ensures in
     made_one c.args.halted.now.number (Got c.args.register c.in_ok-value.value) _ _
     (record { read = rw e at c.in_ok-value.ensures.read; got = rw e at c.in_ok-value.ensures.got })
+
+pub returns-in_err-value-clause-refuses : goal.returns-in_err-value-clause-refuses
+returns-in_err-value-clause-refuses g c =
+    if_err _ c.from_residual.result _ c.from_residual.ensures.1
+    (let e = c.number.ensures in read_refuses _ _ _ _ _ _ (rw e at c.in_err-value.ensures.failed))

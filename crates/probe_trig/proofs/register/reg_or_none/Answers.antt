@@ -1,3 +1,4 @@
+use Rattle.probe_trig.proofs.Refusals.{refuses_none}
 use Rattle.std.proofs.Common.{◌∙◌, ap}
 use Rattle.probe_access.specs.Pending.{is_mip}
 use Rattle.probe_trig.proofs.TransferLemmas.{ask_failed, made_one, not_mip}
@@ -25,3 +26,6 @@ pub returns-in_default-clause-failed : goal.returns-in_default-clause-failed
 returns-in_default-clause-failed g c =
     let e = c.number.ensures in
     ask_failed c.args.register _ _ _ _ _ _ (rw e at c.in-Err.ensures.failed) (rw e at c.in-Err.ensures.left) c.in-Err.ensures.cut
+
+pub returns-in_default-clause-refuses : goal.returns-in_default-clause-refuses
+returns-in_default-clause-refuses g c = refuses_none _ _ c.in_default.not-Register

@@ -1,4 +1,5 @@
-use Rattle.std.proofs.Common.{[], ◌∷◌, ◌++◌, refl, arith}
+use Rattle.debug_model.proofs.RiseLemmas.{within_more, within_then}
+use Rattle.std.proofs.Common.{[], ◌∷◌, ◌++◌, refl, arith, ◌∙◌}
 use Rattle.probe_trig.specs.declared.register.TriggerRegister.TheVariants.{Tselect}
 use Rattle.probe_trig.specs.Runs.{put_back, slot_changed}
 use Rattle.probe_trig.specs.Transfers.Transfer.{Got}
@@ -110,3 +111,51 @@ returns-clause-did g c = record {
         (put_back c.in_ok-kept.kept) _ _ _ c.in_ok-d.ensures.made c.in_ok-set_reg.ensures.made)))));
   };
 }
+
+pub returns-in_err-kept-clause-rises : goal.returns-in_err-kept-clause-rises
+returns-in_err-kept-clause-rises g c =
+    within_more 16 152 _ _ c.reg.ensures.rises (omega arith)
+
+pub returns-in_err-a-clause-rises : goal.returns-in_err-a-clause-rises
+returns-in_err-a-clause-rises g c =
+    within_then 16 32 152 _ (g.D.Dmi.seen c.reg.new.link) _ c.reg.ensures.rises c.change_slot.ensures.rises
+    c.reg.ensures.keeps.fixed (omega arith)
+
+pub returns-in_err-b-clause-rises : goal.returns-in_err-b-clause-rises
+returns-in_err-b-clause-rises g c =
+    within_then 48 32 152 _ (g.D.Dmi.seen c.change_slot.new.link) _ (within_then 16 32 48 _ (g.D.Dmi.seen c.reg.new.link) _ c.reg.ensures.rises c.change_slot.ensures.rises
+    c.reg.ensures.keeps.fixed (omega arith)) c.change_slot-2.ensures.rises
+    (c.change_slot.ensures.keeps.fixed ∙ c.reg.ensures.keeps.fixed) (omega arith)
+
+pub returns-in_err-c-clause-rises : goal.returns-in_err-c-clause-rises
+returns-in_err-c-clause-rises g c =
+    within_then 80 32 152 _ (g.D.Dmi.seen c.change_slot-2.new.link) _ (within_then 48 32 80 _ (g.D.Dmi.seen c.change_slot.new.link) _ (within_then 16 32 48 _ (g.D.Dmi.seen c.reg.new.link) _ c.reg.ensures.rises c.change_slot.ensures.rises
+    c.reg.ensures.keeps.fixed (omega arith)) c.change_slot-2.ensures.rises
+    (c.change_slot.ensures.keeps.fixed ∙ c.reg.ensures.keeps.fixed) (omega arith)) c.change_slot-3.ensures.rises
+    (c.change_slot-2.ensures.keeps.fixed ∙ c.change_slot.ensures.keeps.fixed ∙ c.reg.ensures.keeps.fixed) (omega arith)
+
+pub returns-in_err-d-clause-rises : goal.returns-in_err-d-clause-rises
+returns-in_err-d-clause-rises g c =
+    within_then 112 32 152 _ (g.D.Dmi.seen c.change_slot-3.new.link) _ (within_then 80 32 112 _ (g.D.Dmi.seen c.change_slot-2.new.link) _ (within_then 48 32 80 _ (g.D.Dmi.seen c.change_slot.new.link) _ (within_then 16 32 48 _ (g.D.Dmi.seen c.reg.new.link) _ c.reg.ensures.rises c.change_slot.ensures.rises
+    c.reg.ensures.keeps.fixed (omega arith)) c.change_slot-2.ensures.rises
+    (c.change_slot.ensures.keeps.fixed ∙ c.reg.ensures.keeps.fixed) (omega arith)) c.change_slot-3.ensures.rises
+    (c.change_slot-2.ensures.keeps.fixed ∙ c.change_slot.ensures.keeps.fixed ∙ c.reg.ensures.keeps.fixed) (omega arith)) c.change_slot-4.ensures.rises
+    (c.change_slot-3.ensures.keeps.fixed ∙ c.change_slot-2.ensures.keeps.fixed ∙ c.change_slot.ensures.keeps.fixed ∙ c.reg.ensures.keeps.fixed) (omega arith)
+
+pub returns-in_err-set_reg-clause-rises : goal.returns-in_err-set_reg-clause-rises
+returns-in_err-set_reg-clause-rises g c =
+    within_then 144 8 152 _ (g.D.Dmi.seen c.change_slot-4.new.link) _ (within_then 112 32 144 _ (g.D.Dmi.seen c.change_slot-3.new.link) _ (within_then 80 32 112 _ (g.D.Dmi.seen c.change_slot-2.new.link) _ (within_then 48 32 80 _ (g.D.Dmi.seen c.change_slot.new.link) _ (within_then 16 32 48 _ (g.D.Dmi.seen c.reg.new.link) _ c.reg.ensures.rises c.change_slot.ensures.rises
+    c.reg.ensures.keeps.fixed (omega arith)) c.change_slot-2.ensures.rises
+    (c.change_slot.ensures.keeps.fixed ∙ c.reg.ensures.keeps.fixed) (omega arith)) c.change_slot-3.ensures.rises
+    (c.change_slot-2.ensures.keeps.fixed ∙ c.change_slot.ensures.keeps.fixed ∙ c.reg.ensures.keeps.fixed) (omega arith)) c.change_slot-4.ensures.rises
+    (c.change_slot-3.ensures.keeps.fixed ∙ c.change_slot-2.ensures.keeps.fixed ∙ c.change_slot.ensures.keeps.fixed ∙ c.reg.ensures.keeps.fixed) (omega arith)) c.set_reg.ensures.rises
+    (c.change_slot-4.ensures.keeps.fixed ∙ c.change_slot-3.ensures.keeps.fixed ∙ c.change_slot-2.ensures.keeps.fixed ∙ c.change_slot.ensures.keeps.fixed ∙ c.reg.ensures.keeps.fixed) (omega arith)
+
+pub returns-clause-rises : goal.returns-clause-rises
+returns-clause-rises g c =
+    within_then 144 8 152 _ (g.D.Dmi.seen c.change_slot-4.new.link) _ (within_then 112 32 144 _ (g.D.Dmi.seen c.change_slot-3.new.link) _ (within_then 80 32 112 _ (g.D.Dmi.seen c.change_slot-2.new.link) _ (within_then 48 32 80 _ (g.D.Dmi.seen c.change_slot.new.link) _ (within_then 16 32 48 _ (g.D.Dmi.seen c.reg.new.link) _ c.reg.ensures.rises c.change_slot.ensures.rises
+    c.reg.ensures.keeps.fixed (omega arith)) c.change_slot-2.ensures.rises
+    (c.change_slot.ensures.keeps.fixed ∙ c.reg.ensures.keeps.fixed) (omega arith)) c.change_slot-3.ensures.rises
+    (c.change_slot-2.ensures.keeps.fixed ∙ c.change_slot.ensures.keeps.fixed ∙ c.reg.ensures.keeps.fixed) (omega arith)) c.change_slot-4.ensures.rises
+    (c.change_slot-3.ensures.keeps.fixed ∙ c.change_slot-2.ensures.keeps.fixed ∙ c.change_slot.ensures.keeps.fixed ∙ c.reg.ensures.keeps.fixed) (omega arith)) c.set_reg.ensures.rises
+    (c.change_slot-4.ensures.keeps.fixed ∙ c.change_slot-3.ensures.keeps.fixed ∙ c.change_slot-2.ensures.keeps.fixed ∙ c.change_slot.ensures.keeps.fixed ∙ c.reg.ensures.keeps.fixed) (omega arith)

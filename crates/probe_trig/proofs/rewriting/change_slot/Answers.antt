@@ -1,4 +1,5 @@
-use Rattle.std.proofs.Common.{◌∙◌, sym}
+use Rattle.debug_model.proofs.RiseLemmas.{within_more, within_then}
+use Rattle.std.proofs.Common.{◌∙◌, sym, arith}
 use Rattle.probe_trig.specs.Runs.{word_read}
 use Rattle.probe_trig.proofs.Fitting.{changed_sets, changed_words, changed_made, unchanged_made}
 use Rattle.probe_run.proofs.ActLemmas.{if_err}
@@ -27,3 +28,21 @@ pub returns-clause-made : goal.returns-clause-made
 returns-clause-made g c =
     changed_made c.args.change c.args.slot c.in_ok-tdata1.tdata1 c.args.halted.now.number _ _ _
     (sym c.shows_hit.ensures ∙ c.if-not-shows_hit.false) c.in_ok-tdata1.ensures.made (rw (c.of_word.ensures) at c.in_ok-set_reg.ensures.made)
+
+pub returns-in_err-tdata1-clause-rises : goal.returns-in_err-tdata1-clause-rises
+returns-in_err-tdata1-clause-rises g c =
+    within_more 24 32 _ _ c.read_word.ensures.rises (omega arith)
+
+pub returns-then-not-shows_hit-clause-rises : goal.returns-then-not-shows_hit-clause-rises
+returns-then-not-shows_hit-clause-rises g c =
+    within_more 24 32 _ _ c.read_word.ensures.rises (omega arith)
+
+pub returns-in_err-set_reg-clause-rises : goal.returns-in_err-set_reg-clause-rises
+returns-in_err-set_reg-clause-rises g c =
+    within_then 24 8 32 _ (g.D.Dmi.seen c.read_word.new.link) _ c.read_word.ensures.rises c.set_reg.ensures.rises
+    c.read_word.ensures.keeps.fixed (omega arith)
+
+pub returns-clause-rises : goal.returns-clause-rises
+returns-clause-rises g c =
+    within_then 24 8 32 _ (g.D.Dmi.seen c.read_word.new.link) _ c.read_word.ensures.rises c.set_reg.ensures.rises
+    c.read_word.ensures.keeps.fixed (omega arith)

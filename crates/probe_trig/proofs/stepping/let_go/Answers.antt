@@ -1,5 +1,6 @@
+use Rattle.debug_model.proofs.RiseLemmas.{within_more, within_then}
 use Rattle.probe_trig.proofs.StepCutLemmas.{go_in_back, go_in_hold, go_in_resume}
-use Rattle.std.proofs.Common.{true, false, refl, arith}
+use Rattle.std.proofs.Common.{true, false, refl, arith, ◌∙◌}
 use Rattle.probe_access.proofs.Polls.{not_false, not_true}
 use Rattle.probe_trig.specs.Going.GoFailed.{in_back, in_resume}
 use Rattle.probe_trig.specs.Going.IsThrough.{none, over}
@@ -128,3 +129,39 @@ returns-in_err-running-2-clause-cut g c =
     (back_is c.in_ok-stepped.stepped.executed true c.args.halted.number _ _
     (not_false c.in_ok-stepped.stepped.executed c.if-not-stepped.false) c.in_ok-stepped.ensures.back_at)))
     (rw (c.in_ok-stepped.ensures.hart) at c.in_err-running-2.ensures.left))
+
+pub returns-in_err-some-clause-rises : goal.returns-in_err-some-clause-rises
+returns-in_err-some-clause-rises g c =
+    within_more 152 371 _ _ c.change_hits.ensures.rises (omega arith)
+
+pub returns-in_err-running-clause-rises : goal.returns-in_err-running-clause-rises
+returns-in_err-running-clause-rises g c =
+    within_then 152 2 371 _ (g.D.Dmi.seen c.change_hits.new.link) _ c.change_hits.ensures.rises c.resume.ensures.rises
+    c.change_hits.ensures.keeps.fixed (omega arith)
+
+pub returns-then-not-some-clause-rises : goal.returns-then-not-some-clause-rises
+returns-then-not-some-clause-rises g c =
+    within_then 152 2 371 _ (g.D.Dmi.seen c.change_hits.new.link) _ c.change_hits.ensures.rises c.resume.ensures.rises
+    c.change_hits.ensures.keeps.fixed (omega arith)
+
+pub returns-in_err-stepped-clause-rises : goal.returns-in_err-stepped-clause-rises
+returns-in_err-stepped-clause-rises g c =
+    within_then 152 217 371 _ (g.D.Dmi.seen c.change_hits.new.link) _ c.change_hits.ensures.rises c.step_back.ensures.rises
+    c.change_hits.ensures.keeps.fixed (omega arith)
+
+pub returns-then-not-stepped-clause-rises : goal.returns-then-not-stepped-clause-rises
+returns-then-not-stepped-clause-rises g c =
+    within_then 152 217 371 _ (g.D.Dmi.seen c.change_hits.new.link) _ c.change_hits.ensures.rises c.step_back.ensures.rises
+    c.change_hits.ensures.keeps.fixed (omega arith)
+
+pub returns-in_err-running-2-clause-rises : goal.returns-in_err-running-2-clause-rises
+returns-in_err-running-2-clause-rises g c =
+    within_then 369 2 371 _ (g.D.Dmi.seen c.step_back.new.link) _ (within_then 152 217 369 _ (g.D.Dmi.seen c.change_hits.new.link) _ c.change_hits.ensures.rises c.step_back.ensures.rises
+    c.change_hits.ensures.keeps.fixed (omega arith)) c.resume-2.ensures.rises
+    (c.step_back.ensures.keeps.fixed ∙ c.change_hits.ensures.keeps.fixed) (omega arith)
+
+pub returns-clause-rises : goal.returns-clause-rises
+returns-clause-rises g c =
+    within_then 369 2 371 _ (g.D.Dmi.seen c.step_back.new.link) _ (within_then 152 217 369 _ (g.D.Dmi.seen c.change_hits.new.link) _ c.change_hits.ensures.rises c.step_back.ensures.rises
+    c.change_hits.ensures.keeps.fixed (omega arith)) c.resume-2.ensures.rises
+    (c.step_back.ensures.keeps.fixed ∙ c.change_hits.ensures.keeps.fixed) (omega arith)

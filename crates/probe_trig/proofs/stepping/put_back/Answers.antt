@@ -1,4 +1,5 @@
-use Rattle.std.proofs.Common.{[], ◌∷◌}
+use Rattle.debug_model.proofs.RiseLemmas.{within_more, within_then}
+use Rattle.std.proofs.Common.{[], ◌∷◌, arith}
 use Rattle.probe_trig.specs.declared.register.TriggerRegister.TheVariants.{Dcsr}
 use Rattle.probe_trig.specs.Transfers.Transfer.{Got}
 use Rattle.probe_trig.proofs.Calls.{changed_any}
@@ -21,3 +22,17 @@ pub returns-clause-did : goal.returns-clause-did
 returns-clause-did g c =
     ends_did c.shows_step-executed.result c.in_ok-word.word c.args.halted.now.number _ _ _ c.shows_step-executed.ensures c.in_ok-word.ensures.made
     (changed_any _ _ c.args.halted.now.number _ _ (rw (c.ending.ensures) at c.in_ok-_some.ensures.did))
+
+pub returns-in_err-word-clause-rises : goal.returns-in_err-word-clause-rises
+returns-in_err-word-clause-rises g c =
+    within_more 16 168 _ _ c.reg.ensures.rises (omega arith)
+
+pub returns-in_err-_some-clause-rises : goal.returns-in_err-_some-clause-rises
+returns-in_err-_some-clause-rises g c =
+    within_then 16 152 168 _ (g.D.Dmi.seen c.reg.new.link) _ c.reg.ensures.rises c.change_hits.ensures.rises
+    c.reg.ensures.keeps.fixed (omega arith)
+
+pub returns-clause-rises : goal.returns-clause-rises
+returns-clause-rises g c =
+    within_then 16 152 168 _ (g.D.Dmi.seen c.reg.new.link) _ c.reg.ensures.rises c.change_hits.ensures.rises
+    c.reg.ensures.keeps.fixed (omega arith)

@@ -1,3 +1,5 @@
+use Rattle.std.proofs.Common.{arith}
+use Rattle.debug_model.proofs.RiseLemmas.{within_more, within_then}
 use Rattle.probe_trig.proofs.StepCutLemmas.{back_in_end, back_in_step}
 use Rattle.probe_access.proofs.StepClauses.{flag_left}
 use Rattle.probe_trig.specs.Stepping.BackFailed.{in_end, in_step}
@@ -41,3 +43,17 @@ returns-in_err-executed-clause-cut g c =
     if_err _ c.from_residual-in_err-executed.result _ c.from_residual-in_err-executed.ensures.1
     (back_in_end c.args.halted.number _ _ _ _ _ _ c.in_err-executed.field-0.0 c.in_ok-again.ensures.stepped_at c.in_ok-again.ensures.serving.ready
     c.in_ok-again.ensures.serving.halted (rw (c.in_ok-again.ensures.hart) at c.in_err-executed.ensures.failed))
+
+pub returns-in_err-again-clause-rises : goal.returns-in_err-again-clause-rises
+returns-in_err-again-clause-rises g c =
+    within_more 49 217 _ _ c.step.ensures.rises (omega arith)
+
+pub returns-in_err-executed-clause-rises : goal.returns-in_err-executed-clause-rises
+returns-in_err-executed-clause-rises g c =
+    within_then 49 168 217 _ (g.D.Dmi.seen c.step.new.link) _ c.step.ensures.rises c.put_back.ensures.rises
+    c.step.ensures.keeps.fixed (omega arith)
+
+pub returns-clause-rises : goal.returns-clause-rises
+returns-clause-rises g c =
+    within_then 49 168 217 _ (g.D.Dmi.seen c.step.new.link) _ c.step.ensures.rises c.put_back.ensures.rises
+    c.step.ensures.keeps.fixed (omega arith)

@@ -1,3 +1,5 @@
+use Rattle.std.proofs.Common.{arith}
+use Rattle.debug_model.proofs.RiseLemmas.{within_more, within_then}
 use Rattle.probe_trig.proofs.StepCutLemmas.{over_in_back, over_in_hold}
 use Rattle.probe_trig.specs.Stepping.OverFailed.{in_back, in_hold}
 use Rattle.probe_trig.proofs.OverFaults.{back_counted, scratch_over, step_over_left}
@@ -53,3 +55,17 @@ returns-in_err-stepped-clause-cut g c =
     (over_in_back c.in_ok-_some._some c.args.halted.number _ _ _ c.in_err-stepped.field-0.0
     (held_at c.in_ok-_some._some c.args.halted.number _ _ _ c.requires.serving.ready c.requires.serving.halted c.in_ok-_some.ensures.did)
     c.in_err-stepped.ensures.cut)
+
+pub returns-in_err-_some-clause-rises : goal.returns-in_err-_some-clause-rises
+returns-in_err-_some-clause-rises g c =
+    within_more 152 369 _ _ c.change_hits.ensures.rises (omega arith)
+
+pub returns-in_err-stepped-clause-rises : goal.returns-in_err-stepped-clause-rises
+returns-in_err-stepped-clause-rises g c =
+    within_then 152 217 369 _ (g.D.Dmi.seen c.change_hits.new.link) _ c.change_hits.ensures.rises c.step_back.ensures.rises
+    c.change_hits.ensures.keeps.fixed (omega arith)
+
+pub returns-clause-rises : goal.returns-clause-rises
+returns-clause-rises g c =
+    within_then 152 217 369 _ (g.D.Dmi.seen c.change_hits.new.link) _ c.change_hits.ensures.rises c.step_back.ensures.rises
+    c.change_hits.ensures.keeps.fixed (omega arith)

@@ -1,4 +1,5 @@
-use Rattle.std.proofs.Common.{[], ◌∷◌}
+use Rattle.debug_model.proofs.RiseLemmas.{within_more, within_then}
+use Rattle.std.proofs.Common.{[], ◌∷◌, arith}
 use Rattle.probe_trig.specs.declared.register.TriggerRegister.TheVariants.{Tdata2}
 use Rattle.probe_trig.specs.Runs.{word_read}
 use Rattle.probe_trig.specs.Transfers.Transfer.{Got}
@@ -21,3 +22,17 @@ pub returns-clause-made : goal.returns-clause-made
 returns-clause-made g c =
     made_then c.args.halted.now.number (word_read c.args.slot c.in_ok-tdata1.tdata1)
     (Got Tdata2 c.in_ok-tdata2.tdata2 ∷ []) _ _ _ c.in_ok-tdata1.ensures.made c.in_ok-tdata2.ensures.made
+
+pub returns-in_err-tdata1-clause-rises : goal.returns-in_err-tdata1-clause-rises
+returns-in_err-tdata1-clause-rises g c =
+    within_more 24 40 _ _ c.read_word.ensures.rises (omega arith)
+
+pub returns-in_err-tdata2-clause-rises : goal.returns-in_err-tdata2-clause-rises
+returns-in_err-tdata2-clause-rises g c =
+    within_then 24 16 40 _ (g.D.Dmi.seen c.read_word.new.link) _ c.read_word.ensures.rises c.reg.ensures.rises
+    c.read_word.ensures.keeps.fixed (omega arith)
+
+pub returns-clause-rises : goal.returns-clause-rises
+returns-clause-rises g c =
+    within_then 24 16 40 _ (g.D.Dmi.seen c.read_word.new.link) _ c.read_word.ensures.rises c.reg.ensures.rises
+    c.read_word.ensures.keeps.fixed (omega arith)

@@ -1,4 +1,5 @@
-use Rattle.std.proofs.Common.{[], ◌∷◌, ◌++◌, refl, arith}
+use Rattle.debug_model.proofs.RiseLemmas.{within_more, within_then}
+use Rattle.std.proofs.Common.{[], ◌∷◌, ◌++◌, refl, arith, ◌∙◌}
 use Rattle.probe_trig.specs.declared.register.TriggerRegister.TheVariants.{Tselect}
 use Rattle.probe_trig.specs.Runs.{put_back, slot_read}
 use Rattle.probe_trig.specs.Transfers.Transfer.{Got}
@@ -91,3 +92,51 @@ returns-clause-did g c = (
         (put_back c.in_ok-kept.kept) _ _ _ c.in_ok-d.ensures.made c.in_ok-set_reg.ensures.made)))));
   },
 )
+
+pub returns-in_err-kept-clause-rises : goal.returns-in_err-kept-clause-rises
+returns-in_err-kept-clause-rises g c =
+    within_more 16 184 _ _ c.reg.ensures.rises (omega arith)
+
+pub returns-in_err-a-clause-rises : goal.returns-in_err-a-clause-rises
+returns-in_err-a-clause-rises g c =
+    within_then 16 40 184 _ (g.D.Dmi.seen c.reg.new.link) _ c.reg.ensures.rises c.read_slot.ensures.rises
+    c.reg.ensures.keeps.fixed (omega arith)
+
+pub returns-in_err-b-clause-rises : goal.returns-in_err-b-clause-rises
+returns-in_err-b-clause-rises g c =
+    within_then 56 40 184 _ (g.D.Dmi.seen c.read_slot.new.link) _ (within_then 16 40 56 _ (g.D.Dmi.seen c.reg.new.link) _ c.reg.ensures.rises c.read_slot.ensures.rises
+    c.reg.ensures.keeps.fixed (omega arith)) c.read_slot-2.ensures.rises
+    (c.read_slot.ensures.keeps.fixed ∙ c.reg.ensures.keeps.fixed) (omega arith)
+
+pub returns-in_err-c-clause-rises : goal.returns-in_err-c-clause-rises
+returns-in_err-c-clause-rises g c =
+    within_then 96 40 184 _ (g.D.Dmi.seen c.read_slot-2.new.link) _ (within_then 56 40 96 _ (g.D.Dmi.seen c.read_slot.new.link) _ (within_then 16 40 56 _ (g.D.Dmi.seen c.reg.new.link) _ c.reg.ensures.rises c.read_slot.ensures.rises
+    c.reg.ensures.keeps.fixed (omega arith)) c.read_slot-2.ensures.rises
+    (c.read_slot.ensures.keeps.fixed ∙ c.reg.ensures.keeps.fixed) (omega arith)) c.read_slot-3.ensures.rises
+    (c.read_slot-2.ensures.keeps.fixed ∙ c.read_slot.ensures.keeps.fixed ∙ c.reg.ensures.keeps.fixed) (omega arith)
+
+pub returns-in_err-d-clause-rises : goal.returns-in_err-d-clause-rises
+returns-in_err-d-clause-rises g c =
+    within_then 136 40 184 _ (g.D.Dmi.seen c.read_slot-3.new.link) _ (within_then 96 40 136 _ (g.D.Dmi.seen c.read_slot-2.new.link) _ (within_then 56 40 96 _ (g.D.Dmi.seen c.read_slot.new.link) _ (within_then 16 40 56 _ (g.D.Dmi.seen c.reg.new.link) _ c.reg.ensures.rises c.read_slot.ensures.rises
+    c.reg.ensures.keeps.fixed (omega arith)) c.read_slot-2.ensures.rises
+    (c.read_slot.ensures.keeps.fixed ∙ c.reg.ensures.keeps.fixed) (omega arith)) c.read_slot-3.ensures.rises
+    (c.read_slot-2.ensures.keeps.fixed ∙ c.read_slot.ensures.keeps.fixed ∙ c.reg.ensures.keeps.fixed) (omega arith)) c.read_slot-4.ensures.rises
+    (c.read_slot-3.ensures.keeps.fixed ∙ c.read_slot-2.ensures.keeps.fixed ∙ c.read_slot.ensures.keeps.fixed ∙ c.reg.ensures.keeps.fixed) (omega arith)
+
+pub returns-in_err-set_reg-clause-rises : goal.returns-in_err-set_reg-clause-rises
+returns-in_err-set_reg-clause-rises g c =
+    within_then 176 8 184 _ (g.D.Dmi.seen c.read_slot-4.new.link) _ (within_then 136 40 176 _ (g.D.Dmi.seen c.read_slot-3.new.link) _ (within_then 96 40 136 _ (g.D.Dmi.seen c.read_slot-2.new.link) _ (within_then 56 40 96 _ (g.D.Dmi.seen c.read_slot.new.link) _ (within_then 16 40 56 _ (g.D.Dmi.seen c.reg.new.link) _ c.reg.ensures.rises c.read_slot.ensures.rises
+    c.reg.ensures.keeps.fixed (omega arith)) c.read_slot-2.ensures.rises
+    (c.read_slot.ensures.keeps.fixed ∙ c.reg.ensures.keeps.fixed) (omega arith)) c.read_slot-3.ensures.rises
+    (c.read_slot-2.ensures.keeps.fixed ∙ c.read_slot.ensures.keeps.fixed ∙ c.reg.ensures.keeps.fixed) (omega arith)) c.read_slot-4.ensures.rises
+    (c.read_slot-3.ensures.keeps.fixed ∙ c.read_slot-2.ensures.keeps.fixed ∙ c.read_slot.ensures.keeps.fixed ∙ c.reg.ensures.keeps.fixed) (omega arith)) c.set_reg.ensures.rises
+    (c.read_slot-4.ensures.keeps.fixed ∙ c.read_slot-3.ensures.keeps.fixed ∙ c.read_slot-2.ensures.keeps.fixed ∙ c.read_slot.ensures.keeps.fixed ∙ c.reg.ensures.keeps.fixed) (omega arith)
+
+pub returns-clause-rises : goal.returns-clause-rises
+returns-clause-rises g c =
+    within_then 176 8 184 _ (g.D.Dmi.seen c.read_slot-4.new.link) _ (within_then 136 40 176 _ (g.D.Dmi.seen c.read_slot-3.new.link) _ (within_then 96 40 136 _ (g.D.Dmi.seen c.read_slot-2.new.link) _ (within_then 56 40 96 _ (g.D.Dmi.seen c.read_slot.new.link) _ (within_then 16 40 56 _ (g.D.Dmi.seen c.reg.new.link) _ c.reg.ensures.rises c.read_slot.ensures.rises
+    c.reg.ensures.keeps.fixed (omega arith)) c.read_slot-2.ensures.rises
+    (c.read_slot.ensures.keeps.fixed ∙ c.reg.ensures.keeps.fixed) (omega arith)) c.read_slot-3.ensures.rises
+    (c.read_slot-2.ensures.keeps.fixed ∙ c.read_slot.ensures.keeps.fixed ∙ c.reg.ensures.keeps.fixed) (omega arith)) c.read_slot-4.ensures.rises
+    (c.read_slot-3.ensures.keeps.fixed ∙ c.read_slot-2.ensures.keeps.fixed ∙ c.read_slot.ensures.keeps.fixed ∙ c.reg.ensures.keeps.fixed) (omega arith)) c.set_reg.ensures.rises
+    (c.read_slot-4.ensures.keeps.fixed ∙ c.read_slot-3.ensures.keeps.fixed ∙ c.read_slot-2.ensures.keeps.fixed ∙ c.read_slot.ensures.keeps.fixed ∙ c.reg.ensures.keeps.fixed) (omega arith)

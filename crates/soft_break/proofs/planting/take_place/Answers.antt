@@ -31,7 +31,7 @@ returns-in_err-bus_store-clause-failed g c =
     err_carried c.from_residual-in_err-bus_store.result c.in_err-bus_store.field-0.0
     (Fails (PlantFailed c.args.at) (g.D.Dmi.seen c.args.link.now) (g.D.Dmi.seen c.bus_store.new.link)) c.from_residual-in_err-bus_store.ensures.1
     (in_write c.in_ok-original.original (g.D.Dmi.seen c.bus_load.new.link).fault_count (told (g.D.Dmi.seen c.bus_load.new.link)) c.in_ok-original.ensures.ran
-    c.bus_load.ensures.keeps.later
+    c.bus_load.ensures.keeps.later c.bus_store.ensures.keeps.later
     (subst (λ v. BusStoreFailed B4 c.args.at v (g.D.Dmi.seen c.bus_load.new.link).fault_count (g.D.Dmi.seen c.bus_store.new.link).fault_count
     (told (g.D.Dmi.seen c.bus_load.new.link)) (told (g.D.Dmi.seen c.bus_store.new.link)) c.in_err-bus_store.field-0.0) c.from.ensures
     c.in_err-bus_store.ensures.failed))

@@ -1,5 +1,5 @@
 use Rattle.probe_run.specs.Told.{told}
-use Rattle.std.proofs.Common.{sym, ◌∙◌}
+use Rattle.std.proofs.Common.{◌∙◌, sym, arith}
 use Rattle.abstract_debugger.specs.Debugger.{sees_both}
 use Rattle.probe_run.specs.declared.control.Request.TheVariants.{Resume}
 use Rattle.probe_run.specs.declared.wait.Wanted.TheVariants as Wanted
@@ -9,6 +9,9 @@ use Rattle.probe_run.proofs.ActLemmas.{if_err}
 use Rattle.probe_run.proofs.Asked.{asked_shown, asked_unshown}
 use Rattle.probe_run.proofs.Halting.{can_run_halted}
 use Rattle.probe_run.proofs.Resuming.{go_broke, go_missed_at, step_happened, step_ready, step_selects, step_halted}
+use Rattle.probe_run.specs.Soon.{NeverInVain, VainLooks}
+use Rattle.probe_run.proofs.Soon.{can_step, step_unpaced}
+use Rattle.probe_run.proofs.SoonCalls.{within_soon}
 use Rattle.probe_run.proofs.hart.Halted.run_one.Goals as goal
 
 pub returns-in_err-ask-clause-left : goal.returns-in_err-ask-clause-left
@@ -62,3 +65,36 @@ returns-in-Unshown-false-clause-left g c =
           (told (g.D.Dmi.seen c.args.link.now)) (told (g.D.Dmi.seen c.ask.new.link)) (can_run_halted c.args.self.number _ c.requires.ready c.requires.halted)
           m.1,
     )
+
+pub returns-in_err-ask-clause-soon : goal.returns-in_err-ask-clause-soon
+returns-in_err-ask-clause-soon g c =
+    λ set. within_soon 3 65 (VainLooks 2 Resume sees_both c.args.self.number (told (g.D.Dmi.seen c.args.link.now))) (g.D.Dmi.seen c.args.link.now) (g.D.Dmi.seen c.ask.new.link) (c.ask.ensures.soon 2 (omega arith))
+    c.ask.ensures.rises (λ v. step_unpaced c.args.self.number c.args.self.within (told (g.D.Dmi.seen c.args.link.now)) (can_step c.args.self.number _ c.requires.ready c.requires.halted set) v)
+
+pub returns-in-Shown-clause-soon : goal.returns-in-Shown-clause-soon
+returns-in-Shown-clause-soon g c =
+    λ set. within_soon 3 65 (VainLooks 2 Resume sees_both c.args.self.number (told (g.D.Dmi.seen c.args.link.now))) (g.D.Dmi.seen c.args.link.now) (g.D.Dmi.seen c.ask.new.link) (c.ask.ensures.soon 2 (omega arith))
+    c.ask.ensures.rises (λ v. step_unpaced c.args.self.number c.args.self.within (told (g.D.Dmi.seen c.args.link.now)) (can_step c.args.self.number _ c.requires.ready c.requires.halted set) v)
+
+pub returns-in-Unshown-true-clause-soon : goal.returns-in-Unshown-true-clause-soon
+returns-in-Unshown-true-clause-soon g c =
+    λ set. within_soon 3 65 (VainLooks 2 Resume sees_both c.args.self.number (told (g.D.Dmi.seen c.args.link.now))) (g.D.Dmi.seen c.args.link.now) (g.D.Dmi.seen c.ask.new.link) (c.ask.ensures.soon 2 (omega arith))
+    c.ask.ensures.rises (λ v. step_unpaced c.args.self.number c.args.self.within (told (g.D.Dmi.seen c.args.link.now)) (can_step c.args.self.number _ c.requires.ready c.requires.halted set) v)
+
+pub returns-in-Unshown-false-clause-soon : goal.returns-in-Unshown-false-clause-soon
+returns-in-Unshown-false-clause-soon g c =
+    λ set. within_soon 3 65 (VainLooks 2 Resume sees_both c.args.self.number (told (g.D.Dmi.seen c.args.link.now))) (g.D.Dmi.seen c.args.link.now) (g.D.Dmi.seen c.ask.new.link) (c.ask.ensures.soon 2 (omega arith))
+    c.ask.ensures.rises (λ v. step_unpaced c.args.self.number c.args.self.within (told (g.D.Dmi.seen c.args.link.now)) (can_step c.args.self.number _ c.requires.ready c.requires.halted set) v)
+
+pub returns-in_err-ask-clause-never : goal.returns-in_err-ask-clause-never
+returns-in_err-ask-clause-never g c = λ set. if_err (NeverInVain (g.D.Dmi.seen c.args.link.now)) c.from_residual.result _ c.from_residual.ensures.1 tt
+
+pub returns-in-Unshown-true-clause-never : goal.returns-in-Unshown-true-clause-never
+returns-in-Unshown-true-clause-never g c =
+    λ set. step_unpaced c.args.self.number c.args.self.within (told (g.D.Dmi.seen c.args.link.now)) (can_step c.args.self.number _ c.requires.ready c.requires.halted set)
+    ((rw (c.in-Unshown-true.is) at c.in_ok-ask.ensures.vain) 2 (omega arith) (omega arith))
+
+pub returns-in-Unshown-false-clause-never : goal.returns-in-Unshown-false-clause-never
+returns-in-Unshown-false-clause-never g c =
+    λ set. step_unpaced c.args.self.number c.args.self.within (told (g.D.Dmi.seen c.args.link.now)) (can_step c.args.self.number _ c.requires.ready c.requires.halted set)
+    ((rw (c.in-Unshown-false.is) at c.in_ok-ask.ensures.vain) 2 (omega arith) (omega arith))

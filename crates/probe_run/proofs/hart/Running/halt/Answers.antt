@@ -1,5 +1,7 @@
 use Rattle.probe_run.specs.Told.{told}
 use Rattle.std.proofs.Common.{◌≤◌, arith}
+use Rattle.debug_model.proofs.RiseLemmas.{within_more, within_then}
+use Rattle.abstract_debugger.specs.Debugger.{sees_halted}
 use Rattle.probe_run.specs.declared.control.Request.TheVariants.{Halt}
 use Rattle.probe_run.specs.declared.wait.Wanted.TheVariants as Wanted
 use Rattle.probe_run.specs.Happens.{HaltLeft}
@@ -7,6 +9,9 @@ use Rattle.probe_run.specs.Looks.{seen_in}
 use Rattle.probe_run.proofs.ActLemmas.{if_err}
 use Rattle.probe_run.proofs.Asked.{asked_shown, asked_unshown}
 use Rattle.probe_run.proofs.Halting.{can_run, clear_broke, clear_fails, halt_broke, halt_halted, halt_happened, halt_missed_at, halt_ready, halt_selects}
+use Rattle.probe_run.specs.Soon.{NeverInVain, VainLooks}
+use Rattle.probe_run.proofs.Soon.{halt_unpaced}
+use Rattle.probe_run.proofs.SoonCalls.{within_soon}
 use Rattle.probe_run.proofs.hart.Running.halt.Goals as goal
 
 pub returns-in_err-ask-clause-left : goal.returns-in_err-ask-clause-left
@@ -86,3 +91,37 @@ returns-in-Unshown-clause-left g c =
       halt_missed_at c.args.self.number c.args.self.within m.0 (told (g.D.Dmi.seen c.args.link.now)) (told (g.D.Dmi.seen c.ask.new.link))
           (can_run c.args.self.number _ c.requires.ready c.requires.exists) m.1,
     )
+
+pub returns-in_err-ask-clause-rises : goal.returns-in_err-ask-clause-rises
+returns-in_err-ask-clause-rises g c =
+    within_more 2 3 _ _ (within_soon 2 65 (VainLooks 1 Halt sees_halted c.args.self.number (told (g.D.Dmi.seen c.args.link.now))) (g.D.Dmi.seen c.args.link.now) (g.D.Dmi.seen c.ask.new.link) (c.ask.ensures.soon 1 (omega arith))
+    c.ask.ensures.rises (λ v. halt_unpaced c.args.self.number c.args.self.within (told (g.D.Dmi.seen c.args.link.now)) (can_run c.args.self.number _ c.requires.ready c.requires.exists) v)) (omega arith)
+
+pub returns-in_err-control-in-Shown-clause-rises : goal.returns-in_err-control-in-Shown-clause-rises
+returns-in_err-control-in-Shown-clause-rises g c =
+    within_then 2 1 3 _ (g.D.Dmi.seen c.ask.new.link) _ (within_soon 2 65 (VainLooks 1 Halt sees_halted c.args.self.number (told (g.D.Dmi.seen c.args.link.now))) (g.D.Dmi.seen c.args.link.now) (g.D.Dmi.seen c.ask.new.link) (c.ask.ensures.soon 1 (omega arith))
+    c.ask.ensures.rises (λ v. halt_unpaced c.args.self.number c.args.self.within (told (g.D.Dmi.seen c.args.link.now)) (can_run c.args.self.number _ c.requires.ready c.requires.exists) v))
+    c.control.ensures.rises c.ask.ensures.keeps.fixed (omega arith)
+
+pub returns-in_ok-control-in-Shown-clause-rises : goal.returns-in_ok-control-in-Shown-clause-rises
+returns-in_ok-control-in-Shown-clause-rises g c =
+    within_then 2 1 3 _ (g.D.Dmi.seen c.ask.new.link) _ (within_soon 2 65 (VainLooks 1 Halt sees_halted c.args.self.number (told (g.D.Dmi.seen c.args.link.now))) (g.D.Dmi.seen c.args.link.now) (g.D.Dmi.seen c.ask.new.link) (c.ask.ensures.soon 1 (omega arith))
+    c.ask.ensures.rises (λ v. halt_unpaced c.args.self.number c.args.self.within (told (g.D.Dmi.seen c.args.link.now)) (can_run c.args.self.number _ c.requires.ready c.requires.exists) v))
+    c.control.ensures.rises c.ask.ensures.keeps.fixed (omega arith)
+
+pub returns-in-Unshown-clause-rises : goal.returns-in-Unshown-clause-rises
+returns-in-Unshown-clause-rises g c =
+    within_more 2 3 _ _ (within_soon 2 65 (VainLooks 1 Halt sees_halted c.args.self.number (told (g.D.Dmi.seen c.args.link.now))) (g.D.Dmi.seen c.args.link.now) (g.D.Dmi.seen c.ask.new.link) (c.ask.ensures.soon 1 (omega arith))
+    c.ask.ensures.rises (λ v. halt_unpaced c.args.self.number c.args.self.within (told (g.D.Dmi.seen c.args.link.now)) (can_run c.args.self.number _ c.requires.ready c.requires.exists) v)) (omega arith)
+
+pub returns-in_err-ask-clause-never : goal.returns-in_err-ask-clause-never
+returns-in_err-ask-clause-never g c = if_err (NeverInVain (g.D.Dmi.seen c.args.link.now)) c.from_residual.result _ c.from_residual.ensures.1 tt
+
+pub returns-in_err-control-in-Shown-clause-never : goal.returns-in_err-control-in-Shown-clause-never
+returns-in_err-control-in-Shown-clause-never g c =
+    if_err (NeverInVain (g.D.Dmi.seen c.args.link.now)) c.from_residual-in_err-control-in-Shown.result _ c.from_residual-in_err-control-in-Shown.ensures.1 tt
+
+pub returns-in-Unshown-clause-never : goal.returns-in-Unshown-clause-never
+returns-in-Unshown-clause-never g c =
+    halt_unpaced c.args.self.number c.args.self.within (told (g.D.Dmi.seen c.args.link.now)) (can_run c.args.self.number _ c.requires.ready c.requires.exists)
+    ((rw (c.in-Unshown.is) at c.in_ok-ask.ensures.vain) 1 (omega arith) (omega arith))

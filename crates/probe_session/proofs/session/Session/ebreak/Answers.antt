@@ -1,3 +1,5 @@
+use Rattle.std.proofs.Common.{arith}
+use Rattle.debug_model.proofs.RiseLemmas.{within_more, within_then}
 use Rattle.probe_session.specs.Commands.{ebreak_set, state_of}
 use Rattle.probe_session.specs.Said.{said_by}
 use Rattle.probe_session.proofs.LinkLemmas.{goes_at, if_err}
@@ -27,3 +29,15 @@ returns-in-At-clause-falls g c =
 pub returns-in-At-clause-keeps : goal.returns-in-At-clause-keeps
 returns-in-At-clause-keeps g c =
     let m = met_as _ _ _ c.in-At.is c.in_ok-line.ensures.met in goes_at m.0 c.meet.ensures.keeps.later c.meet.ensures.keeps.fixed c.ebreak_line.ensures.keeps
+
+pub returns-in_err-line-clause-rises : goal.returns-in_err-line-clause-rises
+returns-in_err-line-clause-rises g c =
+    within_more 2 26 _ _ c.meet.ensures.rises (omega arith)
+
+pub returns-in-Says-clause-rises : goal.returns-in-Says-clause-rises
+returns-in-Says-clause-rises g c =
+    within_more 2 26 _ _ c.meet.ensures.rises (omega arith)
+
+pub returns-in-At-clause-rises : goal.returns-in-At-clause-rises
+returns-in-At-clause-rises g c =
+    within_then 2 24 26 _ (g.D.Dmi.seen c.meet.new.link) _ c.meet.ensures.rises c.ebreak_line.ensures.rises c.meet.ensures.keeps.fixed (omega arith)

@@ -1,3 +1,4 @@
+use Rattle.debug_model.proofs.RiseLemmas.{within_more, within_then}
 use Rattle.std.proofs.Common.{◌∙◌, arith, refl}
 use Rattle.probe_session.specs.Commands.{state_of}
 use Rattle.probe_session.specs.Failures.{failure_of_run}
@@ -68,3 +69,25 @@ returns-in_ok-halted-in-Running-clause-keeps g c =
 pub returns-in-Halted-clause-keeps : goal.returns-in-Halted-clause-keeps
 returns-in-Halted-clause-keeps g c =
     goes_at (of_halted c.in-Halted.is c.in_ok-look.ensures.of) c.look.ensures.keeps.later c.look.ensures.keeps.fixed c.stop_line-in-Halted.ensures.keeps
+
+pub returns-in_err-look-clause-rises : goal.returns-in_err-look-clause-rises
+returns-in_err-look-clause-rises g c =
+    within_more 2 215 _ _ c.look.ensures.rises (omega arith)
+
+pub returns-in-Absent-clause-rises : goal.returns-in-Absent-clause-rises
+returns-in-Absent-clause-rises g c =
+    within_more 2 215 _ _ c.look.ensures.rises (omega arith)
+
+pub returns-in_err-halted-in-Running-clause-rises : goal.returns-in_err-halted-in-Running-clause-rises
+returns-in_err-halted-in-Running-clause-rises g c =
+    within_then 2 3 215 _ (g.D.Dmi.seen c.look.new.link) _ c.look.ensures.rises c.halt.ensures.rises c.look.ensures.keeps.fixed (omega arith)
+
+pub returns-in_ok-halted-in-Running-clause-rises : goal.returns-in_ok-halted-in-Running-clause-rises
+returns-in_ok-halted-in-Running-clause-rises g c =
+    within_then 5 210 215 _ (g.D.Dmi.seen c.halt.new.link) _ (within_then 2 3 5 _ (g.D.Dmi.seen c.look.new.link) _ c.look.ensures.rises c.halt.ensures.rises
+    c.look.ensures.keeps.fixed (omega arith)) c.stop_line.ensures.rises (c.halt.ensures.keeps.fixed ∙ c.look.ensures.keeps.fixed) (omega arith)
+
+pub returns-in-Halted-clause-rises : goal.returns-in-Halted-clause-rises
+returns-in-Halted-clause-rises g c =
+    within_then 2 210 215 _ (g.D.Dmi.seen c.look.new.link) _ c.look.ensures.rises c.stop_line-in-Halted.ensures.rises c.look.ensures.keeps.fixed (omega
+    arith)

@@ -1,4 +1,6 @@
-use Rattle.std.proofs.Common.{ap}
+use Rattle.probe_session.proofs.Budgets.{dump_few, line_few, read_few, regs_few, rises_as, slots_few}
+use Rattle.debug_model.proofs.RiseLemmas.{within_none}
+use Rattle.std.proofs.Common.{ap, refl}
 use Rattle.abstract_debugger.specs.Debugger.{State}
 use Rattle.probe_run.specs.Told.{told}
 use Rattle.probe_session.specs.Commands.{state_of}
@@ -174,3 +176,54 @@ returns-clause-knows g c = elim c.match-command.branch [
 
 pub returns-in-End-clause-knows : goal.returns-in-End-clause-knows
 returns-in-End-clause-knows g c = knows_ended _ _ _ _ _ c.in-End.is c.requires.knows
+
+pub returns-clause-rises : goal.returns-clause-rises
+returns-clause-rises g c = elim c.match-command.branch [
+  | in-Idcode+in_ok-idcode_line-in-Idcode w ↦ rises_as w.in-Idcode.is (ap g.D.Dmi.seen w.link-is) w.idcode_line.ensures.rises
+  | in-Hart+in_ok-select-in-Hart w ↦ rises_as w.in-Hart.is (ap g.D.Dmi.seen w.link-is) w.select.ensures.rises
+  | in-State+in_ok-state-in-State w ↦ rises_as w.in-State.is (ap g.D.Dmi.seen w.link-is) w.state.ensures.rises
+  | in-Halt+in_ok-halt-in-Halt w ↦ rises_as w.in-Halt.is (ap g.D.Dmi.seen w.link-is) w.halt.ensures.rises
+  | in-Resume+in_ok-resume-in-Resume w ↦ rises_as w.in-Resume.is (ap g.D.Dmi.seen w.link-is) w.resume.ensures.rises
+  | in-Step+in_ok-step-in-Step w ↦ rises_as w.in-Step.is (ap g.D.Dmi.seen w.link-is) w.step.ensures.rises
+  | in-Wait+in_ok-wait-in-Wait w ↦ rises_as w.in-Wait.is (ap g.D.Dmi.seen w.link-is) w.wait.ensures.rises
+  | in-Regs+in_ok-shown-in-Regs w ↦ rises_as w.in-Regs.is (ap g.D.Dmi.seen w.link-is) w.regs.ensures.rises
+  | in-Reg+in_ok-reg-in-Reg w ↦ rises_as w.in-Reg.is (ap g.D.Dmi.seen w.link-is) w.reg.ensures.rises
+  | in-SetReg+in_ok-set_reg-in-SetReg w ↦ rises_as w.in-SetReg.is (ap g.D.Dmi.seen w.link-is) w.set_reg.ensures.rises
+  | in-Read+in_ok-shown-in-Read w ↦ rises_as w.in-Read.is (ap g.D.Dmi.seen w.link-is) w.elements.ensures.rises
+  | in-Write+in_ok-write-in-Write w ↦ rises_as w.in-Write.is (ap g.D.Dmi.seen w.link-is) w.write.ensures.rises
+  | in-Dump+in_ok-shown-in-Dump w ↦ rises_as w.in-Dump.is (ap g.D.Dmi.seen w.link-is) w.bytes.ensures.rises
+  | in-Via w ↦ rises_as w.in-Via.is (ap g.D.Dmi.seen w.link-is) (within_none 0 _ _ refl)
+  | in-Break+in_ok-break_at-in-Break w ↦ rises_as w.in-Break.is (ap g.D.Dmi.seen w.link-is) w.break_at.ensures.rises
+  | in-Watch+in_ok-watch-in-Watch w ↦ rises_as w.in-Watch.is (ap g.D.Dmi.seen w.link-is) w.watch.ensures.rises
+  | in-Count+in_ok-count-in-Count w ↦ rises_as w.in-Count.is (ap g.D.Dmi.seen w.link-is) w.count.ensures.rises
+  | in-Clear+in_ok-clear-in-Clear w ↦ rises_as w.in-Clear.is (ap g.D.Dmi.seen w.link-is) w.clear.ensures.rises
+  | in-Slots+in_ok-shown-in-Slots w ↦ rises_as w.in-Slots.is (ap g.D.Dmi.seen w.link-is) w.slots.ensures.rises
+  | in-Ebreak+in_ok-ebreak-in-Ebreak w ↦ rises_as w.in-Ebreak.is (ap g.D.Dmi.seen w.link-is) w.ebreak.ensures.rises
+]
+
+pub returns-clause-few : goal.returns-clause-few
+returns-clause-few g c = elim c.match-command.branch [
+  | in-Idcode+in_ok-idcode_line-in-Idcode w ↦ line_few c.args.command w.shown-is c.requires.within
+  | in-Hart+in_ok-select-in-Hart w ↦ line_few c.args.command w.shown-is c.requires.within
+  | in-State+in_ok-state-in-State w ↦ line_few c.args.command w.shown-is c.requires.within
+  | in-Halt+in_ok-halt-in-Halt w ↦ line_few c.args.command w.shown-is c.requires.within
+  | in-Resume+in_ok-resume-in-Resume w ↦ line_few c.args.command w.shown-is c.requires.within
+  | in-Step+in_ok-step-in-Step w ↦ line_few c.args.command w.shown-is c.requires.within
+  | in-Wait+in_ok-wait-in-Wait w ↦ line_few c.args.command w.shown-is c.requires.within
+  | in-Regs+in_ok-shown-in-Regs w ↦ regs_few w.in-Regs.is w.shown-is w.in_ok-shown-in-Regs.ensures.few
+  | in-Reg+in_ok-reg-in-Reg w ↦ line_few c.args.command w.shown-is c.requires.within
+  | in-SetReg+in_ok-set_reg-in-SetReg w ↦ line_few c.args.command w.shown-is c.requires.within
+  | in-Read+in_ok-shown-in-Read w ↦ read_few w.in-Read.is w.shown-is w.in_ok-shown-in-Read.ensures.few
+  | in-Write+in_ok-write-in-Write w ↦ line_few c.args.command w.shown-is c.requires.within
+  | in-Dump+in_ok-shown-in-Dump w ↦ dump_few w.in-Dump.is w.shown-is w.in_ok-shown-in-Dump.ensures.few
+  | in-Via w ↦ line_few c.args.command w.shown-is c.requires.within
+  | in-Break+in_ok-break_at-in-Break w ↦ line_few c.args.command w.shown-is c.requires.within
+  | in-Watch+in_ok-watch-in-Watch w ↦ line_few c.args.command w.shown-is c.requires.within
+  | in-Count+in_ok-count-in-Count w ↦ line_few c.args.command w.shown-is c.requires.within
+  | in-Clear+in_ok-clear-in-Clear w ↦ line_few c.args.command w.shown-is c.requires.within
+  | in-Slots+in_ok-shown-in-Slots w ↦ slots_few w.in-Slots.is w.shown-is w.in_ok-shown-in-Slots.ensures.few
+  | in-Ebreak+in_ok-ebreak-in-Ebreak w ↦ line_few c.args.command w.shown-is c.requires.within
+]
+
+pub returns-in-End-clause-rises : goal.returns-in-End-clause-rises
+returns-in-End-clause-rises g c = rises_as c.in-End.is refl (within_none 0 _ _ refl)

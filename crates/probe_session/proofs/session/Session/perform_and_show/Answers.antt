@@ -1,3 +1,6 @@
+use Rattle.probe_session.specs.Budget.{command_rises, rises_of_shown, rises_up_to}
+use Rattle.probe_session.proofs.Budgets.{shown_few, up_to_few}
+use Rattle.debug_model.proofs.RiseLemmas.{within_more, within_then}
 use Rattle.probe_session.specs.Commands.{state_of}
 use Rattle.probe_session.proofs.Knowing.{known_beside, knows_as, shown_knows}
 use Rattle.probe_session.proofs.LinkLemmas.{if_err}
@@ -33,3 +36,26 @@ pub returns-clause-knows : goal.returns-clause-knows
 returns-clause-knows g c =
     shown_knows c.in-Some.shown _ _ _ _ c.in_ok-show.ensures.selection c.in_ok-show.ensures.line
     (known_beside _ c.in-Some.is c.known_behind-self.ensures.beside) (knows_as _ _ c.known_behind-self.ensures.is c.in_ok-done.ensures.knows)
+
+pub returns-in_err-done-clause-rises : goal.returns-in_err-done-clause-rises
+returns-in_err-done-clause-rises g c =
+    within_more (rises_up_to c.args.command) (command_rises c.args.command) _ _ c.perform.ensures.rises (up_to_few c.args.command c.requires.within)
+
+pub returns-in_default-clause-rises : goal.returns-in_default-clause-rises
+returns-in_default-clause-rises g c =
+    within_more (rises_up_to c.args.command) (command_rises c.args.command) _ _ c.perform.ensures.rises (up_to_few c.args.command c.requires.within)
+
+pub returns-in_err-show-clause-rises : goal.returns-in_err-show-clause-rises
+returns-in_err-show-clause-rises g c =
+    within_then (rises_up_to c.args.command) (rises_of_shown c.in-Some.shown) (command_rises c.args.command) _ (g.D.Dmi.seen c.perform.new.link) _
+    c.perform.ensures.rises c.show.ensures.rises c.perform.ensures.keeps.fixed (shown_few c.args.command _ c.in-Some.is c.in_ok-done.ensures.few)
+
+pub returns-then-branch-clause-rises : goal.returns-then-branch-clause-rises
+returns-then-branch-clause-rises g c =
+    within_then (rises_up_to c.args.command) (rises_of_shown c.in-Some.shown) (command_rises c.args.command) _ (g.D.Dmi.seen c.perform.new.link) _
+    c.perform.ensures.rises c.show.ensures.rises c.perform.ensures.keeps.fixed (shown_few c.args.command _ c.in-Some.is c.in_ok-done.ensures.few)
+
+pub returns-clause-rises : goal.returns-clause-rises
+returns-clause-rises g c =
+    within_then (rises_up_to c.args.command) (rises_of_shown c.in-Some.shown) (command_rises c.args.command) _ (g.D.Dmi.seen c.perform.new.link) _
+    c.perform.ensures.rises c.show.ensures.rises c.perform.ensures.keeps.fixed (shown_few c.args.command _ c.in-Some.is c.in_ok-done.ensures.few)

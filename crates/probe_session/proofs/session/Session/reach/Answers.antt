@@ -1,3 +1,5 @@
+use Rattle.std.proofs.Common.{refl}
+use Rattle.debug_model.proofs.RiseLemmas.{within_none}
 use Rattle.probe_session.specs.Commands.{state_of}
 use Rattle.probe_session.proofs.Knowing.{knows_by_bus, knows_by_hart}
 use Rattle.probe_session.proofs.LinkLemmas.{if_err}
@@ -28,3 +30,7 @@ returns-in-Says-clause-knows g c = knows_by_hart _ c.args.self.now.known c.args.
 
 pub returns-in-At-clause-knows : goal.returns-in-At-clause-knows
 returns-in-At-clause-knows g c = knows_by_hart _ c.args.self.now.known c.args.self.now.hart _ c.in-Progbuf.is c.in_ok-line-in-Progbuf.ensures.selects
+
+pub returns-in-Bus-clause-rises : goal.returns-in-Bus-clause-rises
+returns-in-Bus-clause-rises g c =
+    within_none 2 _ _ refl

@@ -1,3 +1,5 @@
+use Rattle.std.proofs.Common.{arith}
+use Rattle.debug_model.proofs.RiseLemmas.{within_more, within_then}
 use Rattle.probe_session.specs.Commands.{state_of}
 use Rattle.probe_session.specs.Said.{said_by}
 use Rattle.probe_session.proofs.LinkLemmas.{goes_at, if_err}
@@ -28,3 +30,19 @@ returns-in-Halted-clause-falls g c =
 pub returns-in-Halted-clause-keeps : goal.returns-in-Halted-clause-keeps
 returns-in-Halted-clause-keeps g c =
     goes_at (of_halted c.in-Halted.is c.in_ok-look.ensures.of) c.look.ensures.keeps.later c.look.ensures.keeps.fixed c.stop_line.ensures.keeps
+
+pub returns-in_err-look-clause-rises : goal.returns-in_err-look-clause-rises
+returns-in_err-look-clause-rises g c =
+    within_more 2 212 _ _ c.look.ensures.rises (omega arith)
+
+pub returns-in-Absent-clause-rises : goal.returns-in-Absent-clause-rises
+returns-in-Absent-clause-rises g c =
+    within_more 2 212 _ _ c.look.ensures.rises (omega arith)
+
+pub returns-in-Running-clause-rises : goal.returns-in-Running-clause-rises
+returns-in-Running-clause-rises g c =
+    within_more 2 212 _ _ c.look.ensures.rises (omega arith)
+
+pub returns-in-Halted-clause-rises : goal.returns-in-Halted-clause-rises
+returns-in-Halted-clause-rises g c =
+    within_then 2 210 212 _ (g.D.Dmi.seen c.look.new.link) _ c.look.ensures.rises c.stop_line.ensures.rises c.look.ensures.keeps.fixed (omega arith)

@@ -1,3 +1,5 @@
+use Rattle.std.proofs.Common.{◌+◌, ◌*◌, arith}
+use Rattle.debug_model.proofs.RiseLemmas.{within_more, within_then}
 use Rattle.probe_session.specs.Commands.{state_of}
 use Rattle.probe_session.specs.Reach.{stepped}
 use Rattle.probe_session.specs.Said.{said_by}
@@ -39,3 +41,16 @@ returns-in-At-clause-whole g c = let m = met_as _ _ _ c.in-At.is c.in_ok-line.en
 
 pub stepped_line-requires-clause-knows : goal.stepped_line-requires-clause-knows
 stepped_line-requires-clause-knows g c = let m = met_as _ _ _ c.in-At.is c.in_ok-line.ensures.met in knows_met _ _ m.0 c.in_ok-line.ensures.still
+
+pub returns-in_err-line-clause-rises : goal.returns-in_err-line-clause-rises
+returns-in_err-line-clause-rises g c =
+    within_more 2 (50 * c.args.count + 547) _ _ c.meet.ensures.rises (omega arith)
+
+pub returns-in-Says-clause-rises : goal.returns-in-Says-clause-rises
+returns-in-Says-clause-rises g c =
+    within_more 2 (50 * c.args.count + 547) _ _ c.meet.ensures.rises (omega arith)
+
+pub returns-in-At-clause-rises : goal.returns-in-At-clause-rises
+returns-in-At-clause-rises g c =
+    within_then 2 (50 * c.args.count + 545) (50 * c.args.count + 547) _ (g.D.Dmi.seen c.meet.new.link) _ c.meet.ensures.rises c.stepped_line.ensures.rises
+    c.meet.ensures.keeps.fixed (omega arith)

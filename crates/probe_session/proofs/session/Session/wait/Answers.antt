@@ -1,4 +1,5 @@
-use Rattle.std.proofs.Common.{◌∙◌, refl, arith}
+use Rattle.debug_model.proofs.RiseLemmas.{within_more, within_none, within_then}
+use Rattle.std.proofs.Common.{◌∙◌, ◌+◌, ◌*◌, refl, arith}
 use Rattle.probe_session.specs.Commands.{state_of}
 use Rattle.probe_session.specs.Said.{said_by}
 use Rattle.probe_session.proofs.LinkLemmas.{goes_at, if_err}
@@ -14,6 +15,7 @@ looking-init g c = record {
   selects = λ some. absurd (omega (arith, some));
   waited = waited_none (state_of c.args.self.now) c.args.looks _;
   later = omega arith;
+  rises = within_none 0 _ _ refl;
   fixed = refl;
 }
 
@@ -46,6 +48,8 @@ looking-preserved g c = record {
   waited = waited_again (state_of c.args.self.now) c.args.looks c.looking._look _ c.looking-test.true c.looking.invariant.waited
       (saw_as c.in-Running.is c.in_ok-look.ensures.saw);
   later = omega (arith, c.looking.invariant.later, c.look.ensures.keeps.later);
+  rises = within_then (2 * c.looking._look) 2 (2 * (c.looking._look + 1)) _ (g.D.Dmi.seen c.looking.link) _ c.looking.invariant.rises c.look.ensures.rises
+      c.looking.invariant.fixed (omega arith);
   fixed = c.look.ensures.keeps.fixed ∙ c.looking.invariant.fixed;
 }
 
@@ -67,3 +71,24 @@ returns-clause-keeps g c = record {
     selects = c.looking.invariant.selects (omega (arith, c.requires.looks));
   };
 }
+
+pub returns-in_err-look-clause-rises : goal.returns-in_err-look-clause-rises
+returns-in_err-look-clause-rises g c =
+    within_then (2 * c.looking._look) 2 (2 * c.args.looks + 210) _ (g.D.Dmi.seen c.looking.link) _ c.looking.invariant.rises c.look.ensures.rises
+    c.looking.invariant.fixed (omega (arith, c.looking-test.true))
+
+pub returns-in-Absent-clause-rises : goal.returns-in-Absent-clause-rises
+returns-in-Absent-clause-rises g c =
+    within_then (2 * c.looking._look) 2 (2 * c.args.looks + 210) _ (g.D.Dmi.seen c.looking.link) _ c.looking.invariant.rises c.look.ensures.rises
+    c.looking.invariant.fixed (omega (arith, c.looking-test.true))
+
+pub returns-in-Halted-clause-rises : goal.returns-in-Halted-clause-rises
+returns-in-Halted-clause-rises g c =
+    within_then (2 * c.looking._look + 2) 210 (2 * c.args.looks + 210) _ (g.D.Dmi.seen c.look.new.link) _
+    (within_then (2 * c.looking._look) 2 (2 * c.looking._look + 2) _ (g.D.Dmi.seen c.looking.link) _ c.looking.invariant.rises c.look.ensures.rises
+    c.looking.invariant.fixed (omega arith)) c.stop_line.ensures.rises (c.look.ensures.keeps.fixed ∙ c.looking.invariant.fixed)
+    (omega (arith, c.looking-test.true))
+
+pub returns-clause-rises : goal.returns-clause-rises
+returns-clause-rises g c =
+    within_more (2 * c.looking._look) (2 * c.args.looks + 210) _ _ c.looking.invariant.rises (omega arith)

@@ -1,3 +1,6 @@
+use Rattle.probe_access.specs.BlockRises.{store_rises}
+use Rattle.std.proofs.Common.{◌+◌, arith}
+use Rattle.debug_model.proofs.RiseLemmas.{within_more, within_then}
 use Rattle.probe_session.specs.Commands.{state_of}
 use Rattle.probe_session.specs.Reach.{written}
 use Rattle.probe_session.specs.Said.{said_by}
@@ -27,3 +30,17 @@ returns-in-By-clause-falls g c = if_err_map _ _ _ (λ f p. reach_goes_falls (sta
 
 pub returns-in-By-clause-knows : goal.returns-in-By-clause-knows
 returns-in-By-clause-knows g c = still_knows _ _ _ _ _ _ c.written_line.ensures.selection c.in_ok-line.ensures.knows
+
+pub returns-in_err-line-clause-rises : goal.returns-in_err-line-clause-rises
+returns-in_err-line-clause-rises g c =
+    within_more 2 (store_rises c.args.count + 2) _ _ c.reach.ensures.rises (omega arith)
+
+pub returns-in-Says-clause-rises : goal.returns-in-Says-clause-rises
+returns-in-Says-clause-rises g c =
+    within_more 2 (store_rises c.args.count + 2) _ _ c.reach.ensures.rises (omega arith)
+
+pub returns-in-By-clause-rises : goal.returns-in-By-clause-rises
+returns-in-By-clause-rises g c =
+    within_then 2 (store_rises c.args.count) (store_rises c.args.count + 2) _ (g.D.Dmi.seen c.reach.new.link) _ c.reach.ensures.rises
+    c.written_line.ensures.rises
+    c.reach.ensures.keeps.fixed (omega arith)

@@ -2,7 +2,7 @@ use Rattle.std.proofs.Common.{◌∙◌, ◌+◌, ◌*◌, ◌%◌, ◌<◌, ◌
 use Rattle.soft_laws.specs.Lowered.{merged, merged_byte, written_table}
 use Rattle.soft_break.specs.Patches.{IsSameTable, table_of}
 use Rattle.std.proofs.Common.{◌-◌, ◌/◌, refl, subst}
-use Rattle.soft_break.proofs.Views.{fits_more, merged_more, merged_one, power_most, one_more, same_more}
+use Rattle.soft_break.proofs.Views.{fits_more, merged_more, merged_one, power_most, one_more, same_more, words_more}
 use Rattle.soft_break.proofs.table.SoftTable.+merge_bytes.Goals as goal
 
 pub returns-then-count-eq1-clause-merged : goal.returns-then-count-eq1-clause-merged
@@ -38,3 +38,6 @@ returns-clause-taken k c =
 pub returns-clause-fits : goal.returns-clause-fits
 returns-clause-fits k c =
     fits_more c.args.count c.from-first.result c.merge_bytes.result (omega arith) c.requires.some.1 (omega (arith, c.from-first.ensures)) c.merge_bytes.ensures.fits
+
+pub returns-clause-words : goal.returns-clause-words
+returns-clause-words k c = words_more c.args.self.now c.merge_byte.new.self c.merge_bytes.new.self c.merge_byte.ensures.words c.merge_bytes.ensures.words

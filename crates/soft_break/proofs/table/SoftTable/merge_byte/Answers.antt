@@ -1,7 +1,7 @@
 use Rattle.std.proofs.Common.{◌∙◌, ◌-◌, arith, get_or, subst, sym}
 use Rattle.soft_laws.specs.Lowered.{written_table}
-use Rattle.soft_break.specs.Patches.{IsReplaced, IsSameTable, table_of}
-use Rattle.soft_break.proofs.Views.{found_view, merged_none, merged_view, refill_set, taken_none, taken_view}
+use Rattle.soft_break.specs.Patches.{IsReplaced, IsSameTable, KeepsWords, table_of}
+use Rattle.soft_break.proofs.Views.{found_view, merged_none, merged_view, refill_set, taken_none, taken_view, words_itself, words_view}
 use Rattle.soft_break.proofs.table.SoftTable.merge_byte.Goals as goal
 
 pub overflow_sub-within : goal.overflow_sub-within
@@ -51,3 +51,14 @@ pub returns-in-None-clause-taken : goal.returns-in-None-clause-taken
 returns-in-None-clause-taken c =
     taken_none c.args.self.now c.self.inside.addresses.items c.self.inside.originals.items (sym c.self.view_is) c.self.invariant c.args.at c.args.byte c.ranges.byte.fits
     (sym c.place_over.ensures.place ∙ c.in-None.is)
+
+pub returns-in-Some-clause-words : goal.returns-in-Some-clause-words
+returns-in-Some-clause-words c =
+    let cs = c.self.inside.addresses.items in
+    let ws = c.self.inside.originals.items in
+    subst (λ l. KeepsWords c.args.self.now (record { addresses = cs; originals = l }))
+    (refill_set ws c.as_mut_slice.result.now c.in-Some.place c.with_byte.result c.as_mut_slice.ensures.value)
+    (words_view c.args.self.now cs ws (sym c.self.view_is) c.self.invariant c.in-Some.place c.with_byte.result (omega arith))
+
+pub returns-in-None-clause-words : goal.returns-in-None-clause-words
+returns-in-None-clause-words c = words_itself c.args.self.now

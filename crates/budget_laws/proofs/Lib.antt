@@ -1,0 +1,4 @@
+pub mod FewPoints
+pub mod CommandPoints
+pub mod SumLemmas
+pub mod TurnLemmas

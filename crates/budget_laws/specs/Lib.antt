@@ -1,0 +1,2 @@
+pub mod ScriptPoints
+pub mod FewTurns

@@ -1,0 +1,15 @@
+pub mod Wiping
+pub mod Ends
+pub mod BesideLemmas
+pub mod IdcodeLemmas
+pub mod BehindLemmas
+pub mod Waits
+pub mod RunLemmas
+pub mod StepLemmas
+pub mod Accesses
+pub mod PendingLemmas
+pub mod BlockWalks
+pub mod BlockLemmas
+pub mod FaultLemmas
+pub mod ScriptLemmas
+pub mod CommandLemmas

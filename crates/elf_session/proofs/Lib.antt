@@ -1,0 +1,6 @@
+pub mod Elements
+pub mod Entering
+pub mod LoadingSteps
+pub mod Following
+pub mod Plans
+pub mod Laying

@@ -1,0 +1,5 @@
+use Rattle.left_laws.proofs.RegisterLemmas as lemmas
+use Rattle.left_laws.proofs.registers.stop_leaves.Goals as goal
+
+pub returns : goal.returns
+returns c = lemmas.stop_leaves

@@ -1,0 +1,5 @@
+use Rattle.left_laws.proofs.SlotLemmas as lemmas
+use Rattle.left_laws.proofs.slots.arm_leaves.Goals as goal
+
+pub returns : goal.returns
+returns c = lemmas.arm_leaves

@@ -1,0 +1,5 @@
+use Rattle.left_laws.proofs.SlotLemmas as lemmas
+use Rattle.left_laws.proofs.slots.slots_leaves.Goals as goal
+
+pub returns : goal.returns
+returns c = lemmas.slots_leaves

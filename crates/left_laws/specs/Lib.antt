@@ -1,0 +1,11 @@
+pub mod Left
+pub mod Scopes
+pub mod LeftLaws
+pub mod RunLaws
+pub mod RegisterLaws
+pub mod StepLaws
+pub mod MemoryLaws
+pub mod BusLaws
+pub mod SlotLaws
+pub mod SoftLaws
+pub mod ElfLaws

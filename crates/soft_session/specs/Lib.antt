@@ -1,0 +1,11 @@
+pub mod Tables
+pub mod Led
+pub mod Setting
+pub mod Stepping
+pub mod Cuts
+pub mod Memory
+pub mod Untouched
+pub mod Acts
+pub mod Caused
+pub mod Transcribed
+pub mod Wire

@@ -1,0 +1,80 @@
+//! A session with software breakpoints over a wire, and the end of its stream.
+
+ghost use Rattle.std.specs.Prelude.{◌≡◌, ◌≤◌};
+ghost use Rattle.debug_model.specs.Dmi.{CanOperate};
+ghost use Rattle.debug_model.specs.Told.{IsAsLoaded, IsRead};
+ghost use Rattle.probe_session.specs.Causes.{EndCaused, SinkCaused};
+ghost use Rattle.soft_session.specs.Transcribed.{SoftTranscribedAs};
+ghost use Rattle.soft_session.specs.Wire.{SoftWireSession};
+ghost use Rattle.wire_session.specs.Closing.{IsOfRegister};
+ghost use Rattle.wire_session.specs.Session.{LeavesWire};
+ghost use Rattle.wire_session.specs.WireSession.{IsTimed};
+
+use crate::script::run_soft;
+use debug_model::{Scan, SoftScript, Wire};
+use jt_base::Sink;
+use probe_dmi::Link;
+use probe_scan::Scanner;
+use probe_session::Ended;
+use wire_session::end_stream;
+
+/// Runs a script with software breakpoints over these scans, puts its lines, and hands the scans back. It ends no stream, and takes no memory.
+///
+/// Where they tell their chip, that is as it was loaded, and an operation may be made on it.
+pub fn run_soft_over_scan<S: Scan, K: Sink>(scan: S, script: &SoftScript, out: &mut K) -> (Ended, S)
+    requires link { CanOperate (S.seen scan).far }
+    requires loaded { IsAsLoaded (S.seen scan).far }
+    ensures cause { EndCaused (S.seen scan).fault_count (S.seen result.1).fault_count (S.seen result.1).far result.0 }
+    ensures sink_cause { SinkCaused (K.fault_count out.old) (K.fault_count out.new) result.0 }
+    ensures of_register { IsOfRegister result.0 }
+    ensures transcribed { SoftTranscribedAs script.now (K.contents out.old) (K.contents out.new) (S.seen scan).far (S.seen result.1).far result.0 }
+    ensures leaves { LeavesWire (S.seen result.1).far result.0 }
+    ensures later { (S.seen scan).fault_count ≤ (S.seen result.1).fault_count }
+    ensures fixed { (S.seen result.1).fixed ≡ (S.seen scan).fixed }
+    ensures sink_later { K.fault_count out.old ≤ K.fault_count out.new }
+{
+    let mut link = Link::paced(scan);
+    let ended = run_soft(&mut link, script, out);
+    (ended, link.into_scan())
+}
+
+/// The same over this wire, which is handed back: what becomes of a wire that is only lent is known where it is lent.
+fn run_soft_over<W: Wire, K: Sink>(wire: W, script: &SoftScript, out: &mut K) -> (Ended, W)
+    requires link { CanOperate (W.far wire) }
+    requires loaded { IsAsLoaded (W.far wire) }
+    ensures cause { EndCaused (W.fault_count wire) (W.fault_count result.1) (W.far result.1) result.0 }
+    ensures sink_cause { SinkCaused (K.fault_count out.old) (K.fault_count out.new) result.0 }
+    ensures of_register { IsOfRegister result.0 }
+    ensures transcribed { SoftTranscribedAs script.now (K.contents out.old) (K.contents out.new) (W.far wire) (W.far result.1) result.0 }
+    ensures leaves { LeavesWire (W.far result.1) result.0 }
+    ensures later { W.fault_count wire ≤ W.fault_count result.1 }
+    ensures ties { W.ties result.1 ≡ W.ties wire }
+    ensures sink_later { K.fault_count out.old ≤ K.fault_count out.new }
+{
+    let (ended, scanner) = run_soft_over_scan(Scanner::new(wire), script, out);
+    (ended, scanner.into_wire())
+}
+
+/// Runs a script with software breakpoints over any wire, puts its lines, and ends the stream by `Q`, alone, but not behind a fault of the wire. It takes no
+/// memory.
+///
+/// Where the wire tells its chip, that is as it was loaded, and no answer is unread.
+pub fn run_soft_session<W: Wire, K: Sink>(wire: &mut W, script: &SoftScript, out: &mut K) -> Ended
+    requires loaded { IsAsLoaded (W.far wire.old) }
+    requires answered { IsRead (W.far wire.old) }
+    ensures ran { IsTimed (W.ties wire.old) (W.far wire.old)
+        → IsTimed (W.ties wire.new) (W.far wire.new)
+        → SoftWireSession script.now
+        (record { far = W.far wire.old; coming = W.coming wire.old; faults = W.fault_count wire.old })
+        (record { far = W.far wire.new; coming = W.coming wire.new; faults = W.fault_count wire.new })
+        (record { printed = K.contents out.old; faults = K.fault_count out.old })
+        (record { printed = K.contents out.new; faults = K.fault_count out.new })
+        result }
+    ensures of_register { IsOfRegister result }
+    ensures sink_cause { SinkCaused (K.fault_count out.old) (K.fault_count out.new) result }
+    ensures ties { W.ties wire.new ≡ W.ties wire.old }
+    ensures sink_later { K.fault_count out.old ≤ K.fault_count out.new }
+{
+    let (ended, _lent) = run_soft_over(&mut *wire, script, out);
+    end_stream(wire, ended)
+}
