@@ -4,6 +4,10 @@
 #![tactic(auto)]
 
 #[cfg(test)]
+mod rows;
+#[cfg(test)]
 mod scripts;
+#[cfg(test)]
+mod soft_scripts;
 #[cfg(test)]
 mod words;

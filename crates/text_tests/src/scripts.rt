@@ -105,7 +105,7 @@ hart one|line 1: a word is no number where one is wanted;\
 hart 1024|line 1: a number is out of its range";
 
 /// The text and what is wanted of it.
-fn parts(row: &str) -> (&str, &str) {
+pub(super) fn parts(row: &str) -> (&str, &str) {
     row.split_once('|').unwrap_or((row, ""))
 }
 
