@@ -36,27 +36,27 @@ use Rattle.cut_laws.proofs.BesideLemmas.{cut_of}
 use Rattle.cut_laws.proofs.BlockWalks.{LoadAt, QuietAt, StoreAt, loads_at, loads_frozen, loads_quiet, stores_at, stores_frozen, stores_quiet}
 use Rattle.cut_laws.proofs.Ends.{behind_turns, quiet_ends}
 
--- ---- behind some of the elements, where the hart k makes them
+-- ---- behind some of the elements, where the place's hart makes them
 
-hart_between : (k : ℕ) (m : Machine) (h : ℕ) (way : Way) (o : Origin) (s t : Site) → IsFrozenAt k s.board → QuietAt m h way o (target_of s)
-    → LeftAside Scratched k s t → EndsBut (lost k None) o (target_of t)
-hart_between k m h way o s t frozen q c =
-    quiet_ends (lost k None) o q.plan q.lines (behind_turns c.harts t.journal (target_of s)) q.quiet
+hart_between : (m : Machine) (h : ℕ) (way : Way) (o : Origin) (s t : Site) → IsFrozenAt h s.board → QuietAt m h way o (target_of s)
+    → LeftAside Scratched h s t → EndsBut (lost h None) o (target_of t)
+hart_between m h way o s t frozen q c =
+    quiet_ends (lost h None) o q.plan q.lines (behind_turns c.harts t.journal (target_of s)) q.quiet
     (went_on o q.plan q.lines (target_of s) (behind_turns c.harts t.journal (target_of s)) q.deals.stands
     (record { harts = c.harts; board = refl; journal = c.journal }))
-    ∙ aside_alike Scratched k None s t frozen (scratched_loses None) c
+    ∙ aside_alike Scratched h None s t frozen (scratched_loses None) c
 
-hart_load : (k : ℕ) (m : Machine) (h : ℕ) (way : Way) (o : Origin) (s t : Site) → IsFrozenAt k s.board → LoadAt m h way o (target_of s)
-    → LeftBehind Scratched LoadLeaves k s t → EndsBut (lost k None) o (target_of t)
-hart_load k m h way o s t frozen a c =
-    load_ends (lost k None) m h way a.size a.address o a.faulted a.read a.lines c.before c.behind c.memory s t a.fault a.reads c.made c.journal a.deals
-    ∙ behind_alike Scratched LoadLeaves k None s t frozen (scratched_loses None) c
+hart_load : (m : Machine) (h : ℕ) (way : Way) (o : Origin) (s t : Site) → IsFrozenAt h s.board → LoadAt m h way o (target_of s)
+    → LeftBehind Scratched LoadLeaves h s t → EndsBut (lost h None) o (target_of t)
+hart_load m h way o s t frozen a c =
+    load_ends (lost h None) m h way a.size a.address o a.faulted a.read a.lines c.before c.behind c.memory s t a.fault a.reads c.made c.journal a.deals
+    ∙ behind_alike Scratched LoadLeaves h None s t frozen (scratched_loses None) c
 
-hart_store : (k : ℕ) (m : Machine) (h : ℕ) (way : Way) (o : Origin) (size : Size) (value address : ℕ) (s t : Site) → IsFrozenAt k s.board
-    → StoreAt m h way o size value address (target_of s) → LeftBehind Scratched (StoreLeaves size address value) k s t → EndsBut (lost k None) o (target_of t)
-hart_store k m h way o size value address s t frozen a c =
-    store_ends (lost k None) m h way size address value o a.faulted a.stored a.lines c.before c.behind c.memory s t a.fault a.stores c.made c.journal a.deals
-    ∙ behind_alike Scratched (StoreLeaves size address value) k None s t frozen (scratched_loses None) c
+hart_store : (m : Machine) (h : ℕ) (way : Way) (o : Origin) (size : Size) (value address : ℕ) (s t : Site) → IsFrozenAt h s.board
+    → StoreAt m h way o size value address (target_of s) → LeftBehind Scratched (StoreLeaves size address value) h s t → EndsBut (lost h None) o (target_of t)
+hart_store m h way o size value address s t frozen a c =
+    store_ends (lost h None) m h way size address value o a.faulted a.stored a.lines c.before c.behind c.memory s t a.fault a.stores c.made c.journal a.deals
+    ∙ behind_alike Scratched (StoreLeaves size address value) h None s t frozen (scratched_loses None) c
 
 -- ---- and where the system bus does
 
@@ -88,30 +88,30 @@ of_link Left fault.StillBusy register run odd left = tt
 of_link Left (fault.Run why) register run odd left = run why left
 of_link Left (fault.Odd shown) register run odd left = odd shown left
 
--- where hart k serves it stands still
-served_still : (R : Site → Site → Type 0) (k : ℕ) (m : Machine) (h : ℕ) (way : Way) (o : Origin) (p : Plan) (lines : List Line) (Q : Far → Type 0)
+-- where the hart serves it stands still
+served_still : (R : Site → Site → Type 0) (m : Machine) (h : ℕ) (way : Way) (o : Origin) (p : Plan) (lines : List Line) (Q : Far → Type 0)
     (old new : Option Far)
-    → ((f g : Far) → IsFrozenAt k (site_of f).board → Deals m h way o p lines (target_of (site_of f)) → R (site_of f) (site_of g) → Q g)
-    → Serving k old → Leaves R old new → At m h way o p lines (target_at old) → Still Q new
-served_still R k m h way o p lines Q None new step serving w a = absurd (none-some a.target a.is)
-served_still R k m h way o p lines Q (Some f) new step serving w a = record {
+    → ((f g : Far) → IsFrozenAt h (site_of f).board → Deals m h way o p lines (target_of (site_of f)) → R (site_of f) (site_of g) → Q g)
+    → Serving h old → Leaves R old new → At m h way o p lines (target_at old) → Still Q new
+served_still R m h way o p lines Q None new step serving w a = absurd (none-some a.target a.is)
+served_still R m h way o p lines Q (Some f) new step serving w a = record {
   far = w.far;
   is = w.is;
-  holds = step f w.far (serving_frozen k f serving)
+  holds = step f w.far (serving_frozen h f serving)
       (subst (λ t. Deals m h way o p lines t) (sym (same_Some (target_of (site_of f)) a.target a.is)) a.holds) w.left;
 }
 
 -- ---- loads
 
-loads_by_hart : (path : Path) (k : ℕ) (m : Machine) (h : ℕ) (way : Way) (o : Origin) (size : Size) (address count : ℕ) (p : Plan) (lines : List Line)
-    (s t : Site) (may : MayLoad path size address count p) → QuietLoads may → IsFrozenAt k s.board → Deals m h way o p lines (target_of s)
-    → LoadsCut size address count k s t → EndsBut (lost k None) o (target_of t)
-loads_by_hart path k m h way o size address count p lines s t may quiet frozen d (SomeLoaded.between values mid each few rest) =
+loads_by_hart : (path : Path) (m : Machine) (h : ℕ) (way : Way) (o : Origin) (size : Size) (address count : ℕ) (p : Plan) (lines : List Line)
+    (s t : Site) (may : MayLoad path size address count p) → QuietLoads may → IsFrozenAt h s.board → Deals m h way o p lines (target_of s)
+    → LoadsCut size address count h s t → EndsBut (lost h None) o (target_of t)
+loads_by_hart path m h way o size address count p lines s t may quiet frozen d (SomeLoaded.between values mid each few rest) =
     let e : EachLoaded size address s values mid = each_loaded size address s mid values each in
-    hart_between k m h way o mid t (loads_frozen k size e frozen) (loads_quiet path size m h way o count values lines s mid may quiet e few d) rest
-loads_by_hart path k m h way o size address count p lines s t may quiet frozen d (SomeLoaded.within values mid each few rest) =
+    hart_between m h way o mid t (loads_frozen h size e frozen) (loads_quiet path size m h way o count values lines s mid may quiet e few d) rest
+loads_by_hart path m h way o size address count p lines s t may quiet frozen d (SomeLoaded.within values mid each few rest) =
     let e : EachLoaded size address s values mid = each_loaded size address s mid values each in
-    hart_load k m h way o mid t (loads_frozen k size e frozen) (loads_at path size m h way o count values lines s mid may quiet e few d) rest
+    hart_load m h way o mid t (loads_frozen h size e frozen) (loads_at path size m h way o count values lines s mid may quiet e few d) rest
 
 loads_by_bus : (path : Path) (m : Machine) (h : ℕ) (way : Way) (o : Origin) (size : Size) (address count : ℕ) (p : Plan) (lines : List Line)
     (s t : Site) (may : MayLoad path size address count p) → QuietLoads may → Deals m h way o p lines (target_of s)
@@ -124,15 +124,12 @@ loads_by_bus path m h way o size address count p lines s t may quiet d (SomeLoad
 
 pub loading_block_cut : LoadingBlockCut
 loading_block_cut Progbuf way h size address count p old_count new_count old new f may quiet
-    (BlockLoadFell.by_hart k why held serving later heard causes told cut is) m o lines a = record {
-      hart = k;
-      serving = serving;
-      left = served_still (LoadsCut size address count k) k m h way o p lines (λ g. EndsBut (lost k None) o (target_of (site_of g))) old.far new.far
-          (λ x y frozen d c. loads_by_hart Progbuf k m h way o size address count p lines (site_of x) (site_of y) may quiet frozen d c) serving
-          (cut_of why f (Leaves (LoadsCut size address count k) old.far new.far) is
-          (of_link (BlockLoadLeft size address count held old.far new.far) why (λ number l. is_told m h way o p lines old.far a l) (λ w l. l)
-          (λ shown l. is_told m h way o p lines old.far a l) told) cut) a;
-    }
+    (BlockLoadFell.by_hart why held known serving later heard causes told cut is) m o lines a =
+    served_still (LoadsCut size address count h) m h way o p lines (λ g. EndsBut (lost h None) o (target_of (site_of g))) old.far new.far
+    (λ x y frozen d c. loads_by_hart Progbuf m h way o size address count p lines (site_of x) (site_of y) may quiet frozen d c) serving
+    (cut_of why f (Leaves (LoadsCut size address count h) old.far new.far) is
+    (of_link (BlockLoadLeft size address count held old.far new.far) why (λ number l. is_told m h way o p lines old.far a l) (λ w l. l)
+    (λ shown l. is_told m h way o p lines old.far a l) told) cut) a
 loading_block_cut Bus way h size address count p old_count new_count old new f may quiet
     (BlockLoadFell.by_bus why held ready later causes told cut is) m o lines a =
     left_still (BusLoadsCut size address count) m h way o p lines (λ g. EndsBut Nothing o (target_of (site_of g))) old.far new.far
@@ -143,16 +140,16 @@ loading_block_cut Bus way h size address count p old_count new_count old new f m
 
 -- ---- stores
 
-stores_by_hart : (path : Path) (k : ℕ) (m : Machine) (h : ℕ) (way : Way) (o : Origin) (size : Size) (address value count : ℕ) (p to : Plan)
-    (lines : List Line) (s t : Site) (stores : Stores path size value address count p to) → QuietStores stores → IsFrozenAt k s.board
-    → Deals m h way o p lines (target_of s) → StoresCut size address value count k s t → EndsBut (lost k None) o (target_of t)
-stores_by_hart path k m h way o size address value count p to lines s t stores quiet frozen d (SomeStored.between done mid each few rest) =
+stores_by_hart : (path : Path) (m : Machine) (h : ℕ) (way : Way) (o : Origin) (size : Size) (address value count : ℕ) (p to : Plan)
+    (lines : List Line) (s t : Site) (stores : Stores path size value address count p to) → QuietStores stores → IsFrozenAt h s.board
+    → Deals m h way o p lines (target_of s) → StoresCut size address value count h s t → EndsBut (lost h None) o (target_of t)
+stores_by_hart path m h way o size address value count p to lines s t stores quiet frozen d (SomeStored.between done mid each few rest) =
     let e : EachStored size value address s done mid = each_stored size address value s mid done each in
-    hart_between k m h way o mid t (stores_frozen k size value e frozen)
+    hart_between m h way o mid t (stores_frozen h size value e frozen)
     (stores_quiet path size value m h way o count done lines s mid stores quiet e few d) rest
-stores_by_hart path k m h way o size address value count p to lines s t stores quiet frozen d (SomeStored.within done mid each few rest) =
+stores_by_hart path m h way o size address value count p to lines s t stores quiet frozen d (SomeStored.within done mid each few rest) =
     let e : EachStored size value address s done mid = each_stored size address value s mid done each in
-    hart_store k m h way o size value (element_at size address done) mid t (stores_frozen k size value e frozen)
+    hart_store m h way o size value (element_at size address done) mid t (stores_frozen h size value e frozen)
     (stores_at path size value m h way o count done lines s mid stores quiet e few d) rest
 
 stores_by_bus : (path : Path) (m : Machine) (h : ℕ) (way : Way) (o : Origin) (size : Size) (address value count : ℕ) (p to : Plan)
@@ -167,15 +164,12 @@ stores_by_bus path m h way o size address value count p to lines s t stores quie
 
 pub storing_block_cut : StoringBlockCut
 storing_block_cut Progbuf way h size address value count p to old_count new_count old new f stores quiet
-    (BlockStoreFell.by_hart k why serving later heard causes told cut is) m o lines a = record {
-      hart = k;
-      serving = serving;
-      left = served_still (StoresCut size address value count k) k m h way o p lines (λ g. EndsBut (lost k None) o (target_of (site_of g))) old.far new.far
-          (λ x y frozen d c. stores_by_hart Progbuf k m h way o size address value count p to lines (site_of x) (site_of y) stores quiet frozen d c) serving
-          (cut_of why f (Leaves (StoresCut size address value count k) old.far new.far) is
-          (of_link (BlockStoreLeft size address count value old.far new.far) why (λ number l. is_told m h way o p lines old.far a l) (λ w l. l)
-          (λ shown l. is_told m h way o p lines old.far a l) told) cut) a;
-    }
+    (BlockStoreFell.by_hart why known serving later heard causes told cut is) m o lines a =
+    served_still (StoresCut size address value count h) m h way o p lines (λ g. EndsBut (lost h None) o (target_of (site_of g))) old.far new.far
+    (λ x y frozen d c. stores_by_hart Progbuf m h way o size address value count p to lines (site_of x) (site_of y) stores quiet frozen d c) serving
+    (cut_of why f (Leaves (StoresCut size address value count h) old.far new.far) is
+    (of_link (BlockStoreLeft size address count value old.far new.far) why (λ number l. is_told m h way o p lines old.far a l) (λ w l. l)
+    (λ shown l. is_told m h way o p lines old.far a l) told) cut) a
 storing_block_cut Bus way h size address value count p to old_count new_count old new f stores quiet
     (BlockStoreFell.by_bus why ready later causes told cut is) m o lines a =
     left_still (BusStoresCut size address value count) m h way o p lines (λ g. EndsBut Nothing o (target_of (site_of g))) old.far new.far

@@ -74,8 +74,8 @@ LeftAt n o (Fault.forgetting {h} {new = new} fell) = LeftLosing h n o new.far
 LeftAt n o (Fault.forgetting_behind {h} refused next {new = new} gave later fell) = LeftLosing h n o new.far
 LeftAt n o (Fault.behind passed later fault) = LeftAt n o fault
 LeftAt n o (Fault.stopping {h} {new = new} fell) = LeftLosing h n o new.far
-LeftAt n o (Fault.loading_block {path} {old = old} {new} may fell) = LeftByPath path o old.far new.far
-LeftAt n o (Fault.storing_block {path} {old = old} {new} stores fell) = LeftByPath path o old.far new.far
+LeftAt n o (Fault.loading_block {path} {h = h} {new = new} may fell) = LeftByPath path h o new.far
+LeftAt n o (Fault.storing_block {path} {h = h} {new = new} stores fell) = LeftByPath path h o new.far
 
 abbrev pub FaultsLeave : Type 0
 FaultsLeave = (n : Option ℕ) (p : Place) (old_count new_count : ℕ) (old new : Tells) (f : Failure) (fault : Fault p old_count new_count old new f)

@@ -14,7 +14,6 @@ use Rattle.abstract_debugger.specs.Plan.{Plan}
 use Rattle.abstract_debugger.specs.Stands.{Origin}
 use Rattle.abstract_debugger.specs.Ways.{Way}
 use Rattle.probe_run.specs.Acts.{Tells}
-use Rattle.probe_run.specs.Told.{Serving}
 use Rattle.probe_session.specs.declared.fault.Failure.{Failure}
 use Rattle.probe_session.specs.BlockCalls.{BlockLoadFell, BlockStoreFell}
 use Rattle.probe_session.specs.Blocks.{MayLoad, Stores}
@@ -40,23 +39,18 @@ abbrev pub QuietStores : {path : Path} {size : Size} {value address count : ℕ}
 QuietStores (Stores.nothing {p = p}) = Quiet p
 QuietStores (Stores.further faulted next rest) = Quiet faulted × QuietStores rest
 
--- an access by the hart loses x8 and x9 of the one that is selected and halted
-pub record LosesScratch (o : Origin) (old new : Option Far) : Type 0 where
-  pub hart : ℕ
-  pub serving : Serving hart old
-  pub left : LeftLosing hart None o new
-
-abbrev pub LeftByPath : Path → Origin → (old new : Option Far) → Type 0
-LeftByPath Progbuf o old new = LosesScratch o old new
-LeftByPath Bus o old new = LeftWhole o new
+-- an access by the place's hart loses its x8 and x9
+abbrev pub LeftByPath : Path → (h : ℕ) → Origin → (new : Option Far) → Type 0
+LeftByPath Progbuf h o new = LeftLosing h None o new
+LeftByPath Bus h o new = LeftWhole o new
 
 abbrev pub LoadingBlockCut : Type 0
 LoadingBlockCut = (path : Path) (way : Way) (h : ℕ) (size : Size) (address count : ℕ) (p : Plan) (old_count new_count : ℕ) (old new : Tells) (f : Failure)
-    → (may : MayLoad path size address count p) → QuietLoads may → BlockLoadFell path size address count old_count new_count old new f
-    → (m : Machine) (o : Origin) (lines : List Line) → DealsAt m o (place way h p) lines old.far → LeftByPath path o old.far new.far
+    → (may : MayLoad path size address count p) → QuietLoads may → BlockLoadFell path way h size address count old_count new_count old new f
+    → (m : Machine) (o : Origin) (lines : List Line) → DealsAt m o (place way h p) lines old.far → LeftByPath path h o new.far
 
 abbrev pub StoringBlockCut : Type 0
 StoringBlockCut = (path : Path) (way : Way) (h : ℕ) (size : Size) (address value count : ℕ) (p to : Plan) (old_count new_count : ℕ) (old new : Tells)
     (f : Failure) → (stores : Stores path size value address count p to) → QuietStores stores
-    → BlockStoreFell path size address value count old_count new_count old new f
-    → (m : Machine) (o : Origin) (lines : List Line) → DealsAt m o (place way h p) lines old.far → LeftByPath path o old.far new.far
+    → BlockStoreFell path way h size address value count old_count new_count old new f
+    → (m : Machine) (o : Origin) (lines : List Line) → DealsAt m o (place way h p) lines old.far → LeftByPath path h o new.far

@@ -8,6 +8,7 @@ use Rattle.debug_model.specs.Told.{Far, IsReady}
 use Rattle.abstract_debugger.specs.Lines.{Line}
 use Rattle.abstract_debugger.specs.Plan.{Plan}
 use Rattle.abstract_debugger.specs.Plan.Plan.{say}
+use Rattle.abstract_debugger.specs.Ways.{Way}
 use Rattle.elf_load.specs.declared.element.Element.{Element}
 use Rattle.elf_load.specs.Stores.{MadeAll, MadeUpTo, StandsBehind}
 use Rattle.probe_access.specs.declared.fault.AccessFault.{AccessFault}
@@ -122,11 +123,11 @@ block_cut size address value old new why cut =
     (λ s t c. cut_at_first size address value s t c)) cut
 
 -- a single store is a block of one
-element_fell : (size : Size) (address value old_count new_count : ℕ) (old new : Tells) (why : AccessFault) (f : Failure) → IsReady old.far
+element_fell : {way : Way} {h : ℕ} (size : Size) (address value old_count new_count : ℕ) (old new : Tells) (why : AccessFault) (f : Failure) → IsReady old.far
     → old_count ≤ new_count → BusStoreFailed size address value old_count new_count old new why
     → AccessLeft (BusStoreRefused size address) address old.far new.far why
     → IfCut (Leaves (BusLeftOff (StoreLeaves size address value)) old.far new.far) why → Became why f
-    → BlockStoreFell Bus size address value 1 old_count new_count old new f
+    → BlockStoreFell Bus way h size address value 1 old_count new_count old new f
 element_fell size address value old_count new_count old new why f ready later failed left cut became =
     BlockStoreFell.by_bus why ready later (store_causes size address value old_count new_count old new why later failed)
     (block_left size address value old.far new.far why f became left)

@@ -124,14 +124,14 @@ bus_store_of_link size address count value old new (fault.Odd shown) told left =
 
 pub block_load_fell : {path : Path} (size : Size) (address count : ℕ) (m : Machine) (h : ℕ) (way : Way) (o : Origin) (p : Plan) (lines : List Line)
     (old_count new_count : ℕ) (old new : Tells) (f : Failure) → MayLoad path size address count p
-    → BlockLoadFell path size address count old_count new_count old new f
+    → BlockLoadFell path way h size address count old_count new_count old new f
     → At m h way o p lines (target_at old.far) → Still (LeftAs o lines f) new.far
 block_load_fell {path} size address count m h way o p lines old_count new_count old new f may
-    (BlockLoadFell.by_hart k why held at later heard causes told cut is) a =
-    by_access why f o lines new.far (Leaves (LoadsCut size address count k) old.far new.far) is
+    (BlockLoadFell.by_hart why held known at later heard causes told cut is) a =
+    by_access why f o lines new.far (Leaves (LoadsCut size address count h) old.far new.far) is
     (load_of_link size address count held old.far new.far why (is_told m h way o p lines old.far a) told) cut
-    (λ l. left_still (LoadsCut size address count k) m h way o p lines (OnWay o lines) old.far new.far
-    (λ x y d c. some_loaded (LoadedEach size address) (LeftAside Scratched k) (LeftBehind Scratched LoadLeaves k) path size address count p m h way o lines
+    (λ l. left_still (LoadsCut size address count h) m h way o p lines (OnWay o lines) old.far new.far
+    (λ x y d c. some_loaded (LoadedEach size address) (LeftAside Scratched h) (LeftBehind Scratched LoadLeaves h) path size address count p m h way o lines
     (site_of x) (site_of y) (λ values u e. each_loaded size address (site_of x) u values e) (λ u e. record { harts = e.harts; journal = e.journal })
     (λ u e. record { before = e.before; behind = e.behind; journal = e.journal }) may d c) l a)
 block_load_fell {path} size address count m h way o p lines old_count new_count old new f may
@@ -145,15 +145,15 @@ block_load_fell {path} size address count m h way o p lines old_count new_count 
 
 pub block_store_fell : {path : Path} (size : Size) (address value count : ℕ) (m : Machine) (h : ℕ) (way : Way) (o : Origin) (p to : Plan)
     (lines : List Line) (old_count new_count : ℕ) (old new : Tells) (f : Failure) → Stores path size value address count p to
-    → BlockStoreFell path size address value count old_count new_count old new f
+    → BlockStoreFell path way h size address value count old_count new_count old new f
     → At m h way o p lines (target_at old.far) → Still (LeftAs o lines f) new.far
 block_store_fell {path} size address value count m h way o p to lines old_count new_count old new f stores
-    (BlockStoreFell.by_hart k why at later heard causes told cut is) a =
-    by_access why f o lines new.far (Leaves (StoresCut size address value count k) old.far new.far) is
+    (BlockStoreFell.by_hart why known at later heard causes told cut is) a =
+    by_access why f o lines new.far (Leaves (StoresCut size address value count h) old.far new.far) is
     (store_of_link size address count value old.far new.far why (is_told m h way o p lines old.far a) told) cut
-    (λ l. left_still (StoresCut size address value count k) m h way o p lines (OnWay o lines) old.far new.far
-    (λ x y d c. some_stored (StoredEach size address value) (LeftAside Scratched k)
-    (λ done. LeftBehind Scratched (StoreLeaves size (element_at size address done) value) k) path size address value count p to m h way o lines
+    (λ l. left_still (StoresCut size address value count h) m h way o p lines (OnWay o lines) old.far new.far
+    (λ x y d c. some_stored (StoredEach size address value) (LeftAside Scratched h)
+    (λ done. LeftBehind Scratched (StoreLeaves size (element_at size address done) value) h) path size address value count p to m h way o lines
     (site_of x) (site_of y) (λ done u e. each_stored size address value (site_of x) u done e) (λ u e. record { harts = e.harts; journal = e.journal })
     (λ done u e. record { before = e.before; behind = e.behind; journal = e.journal }) stores d c) l a)
 block_store_fell {path} size address value count m h way o p to lines old_count new_count old new f stores

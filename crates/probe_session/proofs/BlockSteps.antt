@@ -23,9 +23,9 @@ use Rattle.probe_session.proofs.Tolds.{at_far, told_case}
 use Rattle.probe_session.proofs.ToldWrites.{load_none_deals, store_none_deals}
 
 pub block_loaded_at : {path : Path} (m : Machine) (h : ℕ) (way : Way) (size : Size) (address : ℕ) (o : Origin) (from to : Plan) (values : List ℕ)
-    (said lines : List Line) (old new : Tells) → Loads path size address from values said to → BlockLoaded path size address values old new
+    (said lines : List Line) (old new : Tells) → Loads path size address from values said to → BlockLoaded path way h size address values old new
     → At m h way o from lines (target_at old.far) → At m h way o to (lines ++ said) (target_at new.far)
-block_loaded_at {path} m h way size address o from to values said lines old new loads (BlockLoaded.by_hart held cut runs fetched told) a =
+block_loaded_at {path} m h way size address o from to values said lines old new loads (BlockLoaded.by_hart held cut known serving runs fetched told) a =
     told_case (BlockLoadedAt size address values) m h way o from lines (λ n. At m h way o to (lines ++ said) (target_at n)) old.far new.far
     (λ c d l. at_far m h way o to (lines ++ said) l.far _ l.is (loads_deals path size m h way o values lines (site_of c) (site_of l.far) loads
     (each_loaded size address (site_of c) (site_of l.far) values l.each) d)) told a
@@ -37,10 +37,10 @@ block_loaded_at {path} m h way size address o from to values said lines old new 
 pub block_loaded_none_at : {path : Path} (m : Machine) (h : ℕ) (way : Way) (size : Size) (address : ℕ) (o : Origin) (from faulted : Plan) (read : ℕ → Plan)
     (values : List ℕ) (said lines : List Line) (old new : Tells)
     → Loads path size address from values said (loading path size (element_at size address (length values)) faulted read)
-    → BlockLoadedNone path size address values old new
+    → BlockLoadedNone path way h size address values old new
     → At m h way o from lines (target_at old.far) → At m h way o faulted (lines ++ said) (target_at new.far)
 block_loaded_none_at {path} m h way size address o from faulted read values said lines old new loads
-    (BlockLoadedNone.by_hart held count x y cut heard fetched told) a =
+    (BlockLoadedNone.by_hart held count x y cut known serving heard fetched told) a =
     told_case (BlockLoadRefused size address values) m h way o from lines (λ n. At m h way o faulted (lines ++ said) (target_at n)) old.far new.far
     (λ c d l. at_far m h way o faulted (lines ++ said) l.far _ l.is (load_none_deals m h way size (element_at size address (length values)) l.refused.why o
     faulted read (lines ++ said) l.refused.before l.refused.behind l.mid (site_of l.far) l.refused.refused
@@ -54,9 +54,9 @@ block_loaded_none_at {path} m h way size address o from faulted read values said
     (loads_deals path size m h way o values lines (site_of c) l.mid loads (each_bus_loaded size address (site_of c) l.mid values l.each) d)))) told a
 
 pub block_stored_at : {path : Path} (m : Machine) (h : ℕ) (way : Way) (size : Size) (address value count : ℕ) (o : Origin) (from to : Plan)
-    (lines : List Line) (old new : Tells) → Stores path size value address count from to → BlockStored path size address value count old new
+    (lines : List Line) (old new : Tells) → Stores path size value address count from to → BlockStored path way h size address value count old new
     → At m h way o from lines (target_at old.far) → At m h way o to lines (target_at new.far)
-block_stored_at {path} m h way size address value count o from to lines old new stores (BlockStored.by_hart runs told) a =
+block_stored_at {path} m h way size address value count o from to lines old new stores (BlockStored.by_hart known serving runs told) a =
     told_case (BlockStoredAt size address value count) m h way o from lines (λ n. At m h way o to lines (target_at n)) old.far new.far
     (λ c d l. at_far m h way o to lines l.far _ l.is (stores_deals path size value m h way o count lines (site_of c) (site_of l.far) stores
     (each_stored size address value (site_of c) (site_of l.far) count l.each) d)) told a
@@ -68,9 +68,10 @@ block_stored_at {path} m h way size address value count o from to lines old new 
 pub block_stored_none_at : {path : Path} (m : Machine) (h : ℕ) (way : Way) (size : Size) (address value done : ℕ) (o : Origin) (from faulted stored : Plan)
     (lines : List Line) (old new : Tells)
     → Stores path size value address done from (storing path size (element_at size address done) value faulted stored)
-    → BlockStoredNone path size address value done old new
+    → BlockStoredNone path way h size address value done old new
     → At m h way o from lines (target_at old.far) → At m h way o faulted lines (target_at new.far)
-block_stored_none_at {path} m h way size address value done o from faulted stored lines old new stores (BlockStoredNone.by_hart count x y heard told) a =
+block_stored_none_at {path} m h way size address value done o from faulted stored lines old new stores
+    (BlockStoredNone.by_hart count x y known serving heard told) a =
     told_case (BlockStoreRefused size address value done) m h way o from lines (λ n. At m h way o faulted lines (target_at n)) old.far new.far
     (λ c d l. at_far m h way o faulted lines l.far _ l.is (store_none_deals m h way size (element_at size address done) l.refused.why o faulted _ lines
     l.refused.before l.refused.behind l.mid (site_of l.far) l.refused.refused

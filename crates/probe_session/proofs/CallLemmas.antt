@@ -6,6 +6,7 @@ use Rattle.debug_model.specs.declared.command.Path.TheVariants.{Progbuf, Bus}
 use Rattle.debug_model.specs.Module.{Site}
 use Rattle.debug_model.specs.Scan.{WhereTold}
 use Rattle.debug_model.specs.Told.{Far, IsReady}
+use Rattle.abstract_debugger.specs.Ways.Way.{Idle, Still}
 use Rattle.probe_access.specs.declared.fault.AccessFault.{AccessFault}
 use Rattle.probe_access.specs.declared.fault.AccessFault.TheVariants as fault
 use Rattle.probe_access.specs.Accesses.{IfMemory}
@@ -20,6 +21,7 @@ use Rattle.probe_access.specs.ReadRuns.{is_wide}
 use Rattle.probe_access.specs.ElementRuns.{LoadRuns, LoadRunsFailed, StoreRunsFailed}
 use Rattle.probe_access.proofs.CutSites.{if_cut}
 use Rattle.probe_run.specs.Acts.{Tells}
+use Rattle.probe_run.specs.Told.{Serving}
 use Rattle.probe_session.specs.Answers.{BlockLoadedAs, RefusedStore}
 use Rattle.probe_session.specs.BlockCalls.{BlockLoaded, BlockLoadedNone, BlockStoredNone, BusLoadsCut, BusStoresCut, LoadsCut, SomeLoaded, SomeStored}
 use Rattle.probe_session.specs.BlockCalls.{StoresCut}
@@ -30,18 +32,18 @@ as_many size held = length-map held (cut_to size)
 
 -- ---- whole ones
 
-pub block_loaded : (size : Size) (address count : ℕ) (held : List ℕ) (old new : Tells) → IsReady old.far → length held ≡ count
+pub block_loaded : (h : ℕ) (size : Size) (address count : ℕ) (held : List ℕ) (old new : Tells) → Serving h old.far → length held ≡ count
     → LoadRuns size address count old held new → Fetched (is_wide size) held old new → WhereTold (BlockLoadedAt size address held) old.far new.far
-    → BlockLoadedAs Progbuf size address count (map (cut_to size) held) old new true
-block_loaded size address count held old new ready all runs fetched told = (
+    → BlockLoadedAs Progbuf Still h size address count (map (cut_to size) held) old new true
+block_loaded h size address count held old new serving all runs fetched told = (
   as_many size held ∙ all,
-  BlockLoaded.by_hart held refl (subst (λ n. LoadRuns size address n old held new) (sym all) runs) fetched
-      (loaded_cut size address held old.far new.far ready told),
+  BlockLoaded.by_hart held refl tt serving (subst (λ n. LoadRuns size address n old held new) (sym all) runs) fetched
+      (loaded_cut size address held old.far new.far serving.ready told),
 )
 
 pub bus_block_loaded : (size : Size) (address count : ℕ) (held : List ℕ) (old new : Tells) → IsReady old.far → length held ≡ count
     → BusLoads size address old held new → WhereTold (BusBlockLoadedAt size address held) old.far new.far
-    → BlockLoadedAs Bus size address count (map (cut_to size) held) old new true
+    → BlockLoadedAs Bus Idle 0 size address count (map (cut_to size) held) old new true
 bus_block_loaded size address count held old new ready all loads told =
     (as_many size held ∙ all, BlockLoaded.by_bus held refl loads (bus_loaded_cut size address held old.far new.far ready told))
 
@@ -50,23 +52,23 @@ bus_block_loaded size address count held old new ready all loads told =
 fewer : (size : Size) (held : List ℕ) (count : ℕ) → length held < count → length (map (cut_to size) held) < count
 fewer size held count below = let e : length (map (cut_to size) held) ≡ length held = as_many size held in omega (arith, e, below)
 
-pub block_loaded_none : (size : Size) (address count at old_count new_count : ℕ) (held : List ℕ) (old new : Tells) (e : AccessFault)
-    → IsReady old.far → e ≡ fault.Memory at → BlockLoadLeft size address count held old.far new.far e
+pub block_loaded_none : (h : ℕ) (size : Size) (address count at old_count new_count : ℕ) (held : List ℕ) (old new : Tells) (e : AccessFault)
+    → Serving h old.far → e ≡ fault.Memory at → BlockLoadLeft size address count held old.far new.far e
     → LoadRunsFailed size address count held old_count new_count old new e → IfMemory (Fetched (is_wide size) held old new) e
-    → BlockLoadedAs Progbuf size address count (map (cut_to size) held) old new false
-block_loaded_none size address count at old_count new_count held old new e ready is left failed fetched =
+    → BlockLoadedAs Progbuf Still h size address count (map (cut_to size) held) old new false
+block_loaded_none h size address count at old_count new_count held old new e serving is left failed fetched =
     let l = subst (BlockLoadLeft size address count held old.far new.far) is left in
     let h = subst (λ x. LoadRunsFailed size address count held old_count new_count old new x) is failed in (
       fewer size held count l.0,
-      BlockLoadedNone.by_hart held count old_count new_count refl
+      BlockLoadedNone.by_hart held count old_count new_count refl tt serving
           (subst (λ a. LoadRunsFailed size address count held old_count new_count old new (fault.Memory a)) l.1 h)
-          (subst (IfMemory (Fetched (is_wide size) held old new)) is fetched) (refused_cut size address held old.far new.far ready l.2),
+          (subst (IfMemory (Fetched (is_wide size) held old new)) is fetched) (refused_cut size address held old.far new.far serving.ready l.2),
     )
 
 pub bus_block_loaded_none : (size : Size) (address count at : ℕ) (held : List ℕ) (old new : Tells) (e : AccessFault)
     → IsReady old.far → e ≡ fault.Memory at → BusBlockLoadLeft size address count held old.far new.far e
     → IfMemory (BusLoadsRefused size address held old new) e
-    → BlockLoadedAs Bus size address count (map (cut_to size) held) old new false
+    → BlockLoadedAs Bus Idle 0 size address count (map (cut_to size) held) old new false
 bus_block_loaded_none size address count at held old new e ready is left refused =
     let l = subst (BusBlockLoadLeft size address count held old.far new.far) is left in (
       fewer size held count l.0,
@@ -74,23 +76,24 @@ bus_block_loaded_none size address count at held old new e ready is left refused
           (subst (IfMemory (BusLoadsRefused size address held old new)) is refused) (bus_refused_cut size address held old.far new.far ready l.2),
     )
 
-pub block_stored_none : (size : Size) (address value count at old_count new_count : ℕ) (old new : Tells) (e : AccessFault) → e ≡ fault.Memory at
+pub block_stored_none : (h : ℕ) (size : Size) (address value count at old_count new_count : ℕ) (old new : Tells) (e : AccessFault) → Serving h old.far
+    → e ≡ fault.Memory at
     → BlockStoreLeft size address count value old.far new.far e
-    → StoreRunsFailed size address value count old_count new_count old new e → RefusedStore Progbuf size address value count at old new
-block_stored_none size address value count at old_count new_count old new e is left failed =
+    → StoreRunsFailed size address value count old_count new_count old new e → RefusedStore Progbuf Still h size address value count at old new
+block_stored_none h size address value count at old_count new_count old new e serving is left failed =
     let l = subst (BlockStoreLeft size address count value old.far new.far) is left in
     let h = subst (λ x. StoreRunsFailed size address value count old_count new_count old new x) is failed in
     record {
       done = l.0;
       below = l.1;
       at_is = l.2;
-      none = BlockStoredNone.by_hart count old_count new_count
+      none = BlockStoredNone.by_hart count old_count new_count tt serving
           (subst (λ a. StoreRunsFailed size address value count old_count new_count old new (fault.Memory a)) l.2 h) l.3;
     }
 
 pub bus_block_stored_none : (size : Size) (address value count at : ℕ) (old new : Tells) (e : AccessFault) → e ≡ fault.Memory at
     → BusBlockStoreLeft size address count value old.far new.far e
-    → IfMemory (BusStoresRefused size address value count old new) e → RefusedStore Bus size address value count at old new
+    → IfMemory (BusStoresRefused size address value count old new) e → RefusedStore Bus Idle 0 size address value count at old new
 bus_block_stored_none size address value count at old new e is left refused =
     let l = subst (BusBlockStoreLeft size address count value old.far new.far) is left in
     record {

@@ -177,13 +177,13 @@ at_first : (path : Path) (a : ℕ) (p q : Plan) (values : List ℕ) (lines : Lis
 at_first path a p q values lines l = behind path (a + 0) a p q values lines (omega arith) l
 
 dump_goes : (r : Reach) (a count : ℕ) (values : List ℕ) (next : Plan) {t u : Tells} → Along (path_by r) count a [] next values 0
-    → BlockLoaded (path_by r) B1 a values t u → Goes (at_dump r a count next) t (byte_rows a [] values) (place_by r next) u
+    → BlockLoaded (path_by r) (way_by r) (hart_by r) B1 a values t u → Goes (at_dump r a count next) t (byte_rows a [] values) (place_by r next) u
 unfolding dumping
 dump_goes r a count values next {t} {u} x l =
     subst (λ ls. Goes (at_dump r a count next) t ls (place_by r next) u) (sym x.lines)
     (goes_then (one (loads_block (at_first (path_by r) a _ _ values _ x.loads) l)) (row_goes (way_by r) (hart_by r) x.begins x.waits next))
 
-pub block_dumped : (r : Reach) (a count : ℕ) (values : List ℕ) {t u : Tells} → BlockLoadedAs (path_by r) B1 a count values t u true
+pub block_dumped : (r : Reach) (a count : ℕ) (values : List ℕ) {t u : Tells} → BlockLoadedAs (path_by r) (way_by r) (hart_by r) B1 a count values t u true
     → Went (at_dump r a count) (λ next. place_by r next) (byte_rows a [] values) t u
 block_dumped r a count values l = record {
   goes = λ next. dump_goes r a count values next
@@ -201,7 +201,7 @@ at_refused path a count left values next x here =
 
 refused_goes : (r : Reach) (a count at left : ℕ) (values : List ℕ) (next : Plan) {t u : Tells} → at ≡ a + length values
     → Along (path_by r) count a [] next values (suc left)
-    → BlockLoadedNone (path_by r) B1 a values t u
+    → BlockLoadedNone (path_by r) (way_by r) (hart_by r) B1 a values t u
     → Goes (at_dump r a count next) t (byte_rows a [] values) (place_by r (say (Line.MemoryFault at) next)) u
 unfolding dumping
 refused_goes r a count at left values next {t} {u} is x l =
@@ -213,7 +213,7 @@ refused_goes r a count at left values next {t} {u} is x l =
     (place_by r (say (Line.MemoryFault at) next)) u) (sym there) (row_goes (way_by r) (hart_by r) x.begins x.waits (say (Line.MemoryFault at) next))))
 
 pub dump_refused : (r : Reach) (a count at : ℕ) (values : List ℕ) {t u : Tells} → at ≡ a + length values
-    → BlockLoadedAs (path_by r) B1 a count values t u false
+    → BlockLoadedAs (path_by r) (way_by r) (hart_by r) B1 a count values t u false
     → Went (at_dump r a count) (λ next. place_by r (say (Line.MemoryFault at) next)) (byte_rows a [] values) t u
 dump_refused r a count at values is l =
     let left : ℕ = count - (length values + 1) in
@@ -221,7 +221,7 @@ dump_refused r a count at values is l =
     record { goes = λ next. refused_goes r a count at left values next is (along (path_by r) count a [] next values (suc left) all) l.1 }
 
 pub dump_fell : (r : Reach) (a count : ℕ) {old_count new_count : ℕ} {t u : Tells} (sink_old sink_new : ℕ) (c : Option (List ℕ)) {f : Failure}
-    → BlockLoadFell (path_by r) B1 a count old_count new_count t u f
+    → BlockLoadFell (path_by r) (way_by r) (hart_by r) B1 a count old_count new_count t u f
     → Fell Quiet (at_dump r a count) old_count new_count t u sink_old sink_new c c f
 dump_fell r a count sink_old sink_new c fell = fell_first sink_old sink_new c (falls_at (λ next. Fault.loading_block
     (subst (λ x. MayLoad (path_by r) B1 x count (dumping (path_by r) count a [] next)) (omega arith) (dumping_may (path_by r) count next a [])) fell))
@@ -230,7 +230,7 @@ dump_fell r a count sink_old sink_new c fell = fell_first sink_old sink_new c (f
 
 -- where one of them is cut, whether the block is whole or not
 pub rows_cut : (r : Reach) (a count old_count new_count : ℕ) (values : List ℕ) (is_whole : Bool) {t u : Tells} {sink_old sink_new : ℕ}
-    {c d : Option (List ℕ)} {f : Failure} → f ≡ failure.Sink → BlockLoadedAs (path_by r) B1 a count values t u is_whole
+    {c d : Option (List ℕ)} {f : Failure} → f ≡ failure.Sink → BlockLoadedAs (path_by r) (way_by r) (hart_by r) B1 a count values t u is_whole
     → GrewByPrefix (text_of_all (byte_rows a [] values)) c d → Rises sink_old sink_new
     → Fell Quiet (at_dump r a count) old_count new_count t u sink_old sink_new c d f
 rows_cut r a count old_count new_count values true sink l front rises =
@@ -240,19 +240,20 @@ rows_cut r a count old_count new_count values false sink l front rises =
     fell_among (byte_rows a [] values) (way_by r) (hart_by r) (λ next. say (Line.MemoryFault (a + length values)) next) (λ next calm. calm)
     old_count new_count sink (dump_refused r a count _ values refl l) front rises
 
-pub rows_shown : (r : Reach) (a count : ℕ) (values : List ℕ) {t u : Tells} {c d : Option (List ℕ)} → BlockLoadedAs (path_by r) B1 a count values t u true
+pub rows_shown : (r : Reach) (a count : ℕ) (values : List ℕ) {t u : Tells} {c d : Option (List ℕ)}
+    → BlockLoadedAs (path_by r) (way_by r) (hart_by r) B1 a count values t u true
     → d ≡ grown (text_of_all (byte_rows a [] values)) c → Spoke (at_dump r a count) idle false t u c d
 rows_shown r a count values l put =
     spoke_went (spoke_lines (byte_rows a [] values) (no_error values a []) (block_dumped r a count values l) put) (reach_rests r (λ next. next))
 
 shown_before : (r : Reach) (a count at : ℕ) (values : List ℕ) {t u : Tells} {c d : Option (List ℕ)} → at ≡ a + length values
-    → BlockLoadedAs (path_by r) B1 a count values t u false → d ≡ grown (text_of_all (byte_rows a [] values)) c
+    → BlockLoadedAs (path_by r) (way_by r) (hart_by r) B1 a count values t u false → d ≡ grown (text_of_all (byte_rows a [] values)) c
     → Spoke (at_dump r a count) (λ next. place_by r (say (Line.MemoryFault at) next)) false t u c d
 shown_before r a count at values is l put =
     spoke_lines (byte_rows a [] values) (no_error values a []) (dump_refused r a count at values is l) put
 
 pub rows_refused : (r : Reach) (a count at : ℕ) (values : List ℕ) {t u : Tells} {c d e : Option (List ℕ)} → at ≡ a + length values
-    → BlockLoadedAs (path_by r) B1 a count values t u false → d ≡ grown (text_of_all (byte_rows a [] values)) c
+    → BlockLoadedAs (path_by r) (way_by r) (hart_by r) B1 a count values t u false → d ≡ grown (text_of_all (byte_rows a [] values)) c
     → e ≡ grown (text_of (Line.MemoryFault at)) d → Spoke (at_dump r a count) idle true t u c e
 rows_refused r a count at values is l put more =
     spoke_went (spoke_says (way_by r) (hart_by r) (Line.MemoryFault at) (λ next. next) refl (shown_before r a count at values is l put) more)
@@ -260,7 +261,7 @@ rows_refused r a count at values is l put more =
 
 pub refusal_cut : (r : Reach) (a count at old_count new_count : ℕ) (values : List ℕ) {t u : Tells} {sink_old sink_new : ℕ}
     {c d e : Option (List ℕ)} {f : Failure} → f ≡ failure.Sink → at ≡ a + length values
-    → BlockLoadedAs (path_by r) B1 a count values t u false
+    → BlockLoadedAs (path_by r) (way_by r) (hart_by r) B1 a count values t u false
     → d ≡ grown (text_of_all (byte_rows a [] values)) c → GrewByPrefix (text_of (Line.MemoryFault at)) d e → Rises sink_old sink_new
     → Fell Quiet (at_dump r a count) old_count new_count t u sink_old sink_new c e f
 refusal_cut r a count at old_count new_count values sink is l put front rises =

@@ -8,6 +8,7 @@ use Rattle.debug_model.specs.Dmi.DmiComing.{Scans}
 use Rattle.debug_model.specs.Scan.{Coming, ScanCause}
 use Rattle.debug_model.specs.Told.{Far}
 use Rattle.abstract_debugger.specs.Plan.{Plan}
+use Rattle.abstract_debugger.specs.Ways.{Way}
 use Rattle.probe_access.specs.declared.fault.AccessFault.{AccessFault}
 use Rattle.probe_access.specs.declared.fault.AccessFault.TheVariants as fault
 use Rattle.probe_run.specs.declared.fault.RunFault.{RunFault}
@@ -102,16 +103,16 @@ traced_since f count mid_count new_count told le w = record {
 
 -- ---- a call that failed
 
-pub load_traced : {path : Path} (size : Size) (address count old_count new_count : ℕ) (old new : Tells) (f : Failure)
-    → BlockLoadFell path size address count old_count new_count old new f → Caused old_count new_count new.far f
-load_traced size address count old_count new_count old new f (BlockLoadFell.by_hart h why held at later heard causes told cut is) =
+pub load_traced : {path : Path} {way : Way} {h : ℕ} (size : Size) (address count old_count new_count : ℕ) (old new : Tells) (f : Failure)
+    → BlockLoadFell path way h size address count old_count new_count old new f → Caused old_count new_count new.far f
+load_traced size address count old_count new_count old new f (BlockLoadFell.by_hart why held known at later heard causes told cut is) =
     record { later = later; cause = of_access why f old_count new_count new.far is (block_caused why old_count new_count old new causes) }
 load_traced size address count old_count new_count old new f (BlockLoadFell.by_bus why held at later causes told cut is) =
     record { later = later; cause = of_access why f old_count new_count new.far is (bus_block_caused why old_count new_count old new causes) }
 
-pub store_traced : {path : Path} (size : Size) (address value count old_count new_count : ℕ) (old new : Tells) (f : Failure)
-    → BlockStoreFell path size address value count old_count new_count old new f → Caused old_count new_count new.far f
-store_traced size address value count old_count new_count old new f (BlockStoreFell.by_hart h why at later heard causes told cut is) =
+pub store_traced : {path : Path} {way : Way} {h : ℕ} (size : Size) (address value count old_count new_count : ℕ) (old new : Tells) (f : Failure)
+    → BlockStoreFell path way h size address value count old_count new_count old new f → Caused old_count new_count new.far f
+store_traced size address value count old_count new_count old new f (BlockStoreFell.by_hart why known at later heard causes told cut is) =
     record { later = later; cause = of_access why f old_count new_count new.far is (block_caused why old_count new_count old new causes) }
 store_traced size address value count old_count new_count old new f (BlockStoreFell.by_bus why at later causes told cut is) =
     record { later = later; cause = of_access why f old_count new_count new.far is (bus_block_caused why old_count new_count old new causes) }

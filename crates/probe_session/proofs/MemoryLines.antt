@@ -25,7 +25,7 @@ use Rattle.probe_session.specs.Goes.{Falls, Fault, Went}
 use Rattle.probe_session.specs.Links.{Attached, AttachedHalted}
 use Rattle.probe_session.specs.Met.{Rest, before_look}
 use Rattle.probe_session.specs.Places.{Place, at_say, idle, still}
-use Rattle.probe_session.specs.Reach.{AttachedBy, MemoryRest, ReachedAs, before_reach, path_by, place_by, written}
+use Rattle.probe_session.specs.Reach.{AttachedBy, MemoryRest, ReachedAs, before_reach, hart_by, path_by, place_by, way_by, written}
 use Rattle.probe_session.specs.Steps.Step.{rests, same, stores_block, stores_block_none}
 use Rattle.probe_session.proofs.BlockDeals.{later_is}
 use Rattle.probe_session.proofs.WentLemmas.{falls_at, falls_then, falls_within, went_none, went_one, went_then, within}
@@ -110,7 +110,8 @@ pub write_misaligned : (r : Reach) (size : Size) (a v count : ℕ) (t : Tells) �
 write_misaligned r size a v count t is =
     went_then (went_one (λ next. same (misaligned_body size a next (writes r size a v count next) is))) (reach_rests r (λ next. say (Line.MemoryFault a) next))
 
-pub wrote_all : (r : Reach) (size : Size) (a v count : ℕ) {t u : Tells} → is_aligned a size ≡ true → BlockStored (path_by r) size a v count t u
+pub wrote_all : (r : Reach) (size : Size) (a v count : ℕ) {t u : Tells} → is_aligned a size ≡ true
+    → BlockStored (path_by r) (way_by r) (hart_by r) size a v count t u
     → Went (at_write r size a v count) (ends_with (Line.Wrote count)) [] t u
 wrote_all r size a v count is s =
     went_then (at_elements r size a v count is)
@@ -126,7 +127,7 @@ unfolding writing
 refused_at path size a v count done left all next = writing_stores path count size a v next (done_line count next) done (suc left) all
 
 pub write_refused : (r : Reach) (size : Size) (a v count at : ℕ) {t u : Tells} → is_aligned a size ≡ true
-    → RefusedStore (path_by r) size a v count at t u → Went (at_write r size a v count) (ends_with (Line.MemoryFault at)) [] t u
+    → RefusedStore (path_by r) (way_by r) (hart_by r) size a v count at t u → Went (at_write r size a v count) (ends_with (Line.MemoryFault at)) [] t u
 write_refused r size a v count at {t} {u} is s =
     let left : ℕ = count - (s.done + 1) in
     let all : count ≡ s.done + suc left = omega (arith, s.below) in
@@ -136,7 +137,8 @@ write_refused r size a v count at {t} {u} is s =
     (reach_rests r (λ next. say (Line.MemoryFault (element_at size a s.done)) next))))
 
 pub write_falls : (r : Reach) (size : Size) (a v count : ℕ) {old_count new_count : ℕ} {t u : Tells} {f : Failure} → is_aligned a size ≡ true
-    → BlockStoreFell (path_by r) size a v count old_count new_count t u f → Falls (at_write r size a v count) [] old_count new_count t u f
+    → BlockStoreFell (path_by r) (way_by r) (hart_by r) size a v count old_count new_count t u f
+    → Falls (at_write r size a v count) [] old_count new_count t u f
 write_falls r size a v count is fell =
     falls_then (at_elements r size a v count is) (omega arith)
     (falls_at (λ next. Fault.storing_block (writing_stores (path_by r) count size a v next (done_line count next) count 0 (omega arith)) fell))

@@ -95,13 +95,14 @@ refused_block path size a count values left next all = reading_loads path count 
 -- ---- the block
 
 pub block_read : (r : Reach) (size : Size) (a count : ℕ) (values : List ℕ) {t u : Tells} → is_aligned a size ≡ true
-    → BlockLoadedAs (path_by r) size a count values t u true → Went (at_read r size a count) (λ next. place_by r next) (element_lines size a values) t u
+    → BlockLoadedAs (path_by r) (way_by r) (hart_by r) size a count values t u true
+    → Went (at_read r size a count) (λ next. place_by r next) (element_lines size a values) t u
 block_read r size a count values is l = went_then (at_elements r size a count is)
     (went_one (λ next. loads_block (whole_block (path_by r) size a count values next l.0) l.1))
 
 pub block_refused : (r : Reach) (size : Size) (a count at : ℕ) (values : List ℕ) {t u : Tells} → is_aligned a size ≡ true
     → at ≡ element_at size a (length values)
-    → BlockLoadedAs (path_by r) size a count values t u false
+    → BlockLoadedAs (path_by r) (way_by r) (hart_by r) size a count values t u false
     → Went (at_read r size a count) (λ next. place_by r (say (Line.MemoryFault at) next)) (element_lines size a values) t u
 block_refused r size a count at values {t} {u} is at_is l =
     let left : ℕ = count - (length values + 1) in
@@ -111,7 +112,7 @@ block_refused r size a count at values {t} {u} is at_is l =
     (went_one (λ next. loads_block_none _ (refused_block (path_by r) size a count values left next all) l.1)))
 
 pub block_fell : (r : Reach) (size : Size) (a count : ℕ) {old_count new_count : ℕ} {t u : Tells} (sink_old sink_new : ℕ) (c : Option (List ℕ)) {f : Failure}
-    → is_aligned a size ≡ true → BlockLoadFell (path_by r) size a count old_count new_count t u f
+    → is_aligned a size ≡ true → BlockLoadFell (path_by r) (way_by r) (hart_by r) size a count old_count new_count t u f
     → Fell Quiet (at_read r size a count) old_count new_count t u sink_old sink_new c c f
 block_fell r size a count sink_old sink_new c is fell =
     fell_first sink_old sink_new c (falls_then (at_elements r size a count is) (omega arith)
@@ -122,7 +123,7 @@ block_fell r size a count sink_old sink_new c is fell =
 -- where one of them is cut, whether the block is whole or not
 pub lines_cut : (r : Reach) (size : Size) (a count old_count new_count : ℕ) (values : List ℕ) (is_whole : Bool) {t u : Tells} {sink_old sink_new : ℕ}
     {c d : Option (List ℕ)} {f : Failure} → f ≡ failure.Sink → is_aligned a size ≡ true
-    → BlockLoadedAs (path_by r) size a count values t u is_whole
+    → BlockLoadedAs (path_by r) (way_by r) (hart_by r) size a count values t u is_whole
     → GrewByPrefix (text_of_all (element_lines size a values)) c d → Rises sink_old sink_new
     → Fell Quiet (at_read r size a count) old_count new_count t u sink_old sink_new c d f
 lines_cut r size a count old_count new_count values true sink is l front rises =
@@ -133,21 +134,21 @@ lines_cut r size a count old_count new_count values false sink is l front rises 
     (λ next calm. calm) old_count new_count sink (block_refused r size a count _ values is refl l) front rises
 
 pub elements_shown : (r : Reach) (size : Size) (a count : ℕ) (values : List ℕ) {t u : Tells} {c d : Option (List ℕ)} → is_aligned a size ≡ true
-    → BlockLoadedAs (path_by r) size a count values t u true
+    → BlockLoadedAs (path_by r) (way_by r) (hart_by r) size a count values t u true
     → d ≡ grown (text_of_all (element_lines size a values)) c → Spoke (at_read r size a count) idle false t u c d
 elements_shown r size a count values is l put =
     spoke_went (spoke_lines (element_lines size a values) (no_error size a values) (block_read r size a count values is l) put)
     (reach_rests r (λ next. next))
 
 shown_before : (r : Reach) (size : Size) (a count at : ℕ) (values : List ℕ) {t u : Tells} {c d : Option (List ℕ)} → is_aligned a size ≡ true
-    → at ≡ element_at size a (length values) → BlockLoadedAs (path_by r) size a count values t u false
+    → at ≡ element_at size a (length values) → BlockLoadedAs (path_by r) (way_by r) (hart_by r) size a count values t u false
     → d ≡ grown (text_of_all (element_lines size a values)) c
     → Spoke (at_read r size a count) (λ next. place_by r (say (Line.MemoryFault at) next)) false t u c d
 shown_before r size a count at values is at_is l put =
     spoke_lines (element_lines size a values) (no_error size a values) (block_refused r size a count at values is at_is l) put
 
 pub elements_refused : (r : Reach) (size : Size) (a count at : ℕ) (values : List ℕ) {t u : Tells} {c d e : Option (List ℕ)} → is_aligned a size ≡ true
-    → at ≡ element_at size a (length values) → BlockLoadedAs (path_by r) size a count values t u false
+    → at ≡ element_at size a (length values) → BlockLoadedAs (path_by r) (way_by r) (hart_by r) size a count values t u false
     → d ≡ grown (text_of_all (element_lines size a values)) c
     → e ≡ grown (text_of (Line.MemoryFault at)) d → Spoke (at_read r size a count) idle true t u c e
 elements_refused r size a count at values is at_is l put more =
@@ -156,7 +157,7 @@ elements_refused r size a count at values is at_is l put more =
 
 pub refusal_cut : (r : Reach) (size : Size) (a count at old_count new_count : ℕ) (values : List ℕ) {t u : Tells} {sink_old sink_new : ℕ}
     {c d e : Option (List ℕ)} {f : Failure} → f ≡ failure.Sink → is_aligned a size ≡ true
-    → at ≡ element_at size a (length values) → BlockLoadedAs (path_by r) size a count values t u false
+    → at ≡ element_at size a (length values) → BlockLoadedAs (path_by r) (way_by r) (hart_by r) size a count values t u false
     → d ≡ grown (text_of_all (element_lines size a values)) c → GrewByPrefix (text_of (Line.MemoryFault at)) d e → Rises sink_old sink_new
     → Fell Quiet (at_read r size a count) old_count new_count t u sink_old sink_new c e f
 refusal_cut r size a count at old_count new_count values sink is at_is l put front rises =

@@ -2,6 +2,7 @@
 use Rattle.std.proofs.Common.{◌≡◌, ℕ, Bool, true, false, List, Option, Some, None, subst}
 use Rattle.rv_model.specs.declared.size.Size.{Size}
 use Rattle.debug_model.specs.declared.command.Path.{Path}
+use Rattle.abstract_debugger.specs.Ways.{Way}
 use Rattle.probe_run.specs.declared.hart.Seen.{Seen}
 use Rattle.probe_run.specs.Acts.{Tells}
 use Rattle.debug_model.specs.declared.slot_use.SlotUse.{SlotUse}
@@ -32,18 +33,18 @@ gave_true {h} {number} {value} {b} {t} {u} is p = subst (WrittenAs h number valu
 pub gave_false : {h number value : ℕ} {b : Bool} {t u : Tells} → b ≡ false → WrittenAs h number value t u b → GaveNone h number value t u
 gave_false {h} {number} {value} {b} {t} {u} is p = subst (WrittenAs h number value t u) is p
 
-pub block_whole : {path : Path} {size : Size} {address count : ℕ} {values : List ℕ} {b : Bool} {t u : Tells} → b ≡ true
-    → BlockLoadedAs path size address count values t u b → BlockLoadedAs path size address count values t u true
-block_whole {path} {size} {address} {count} {values} {b} {t} {u} is p = subst (BlockLoadedAs path size address count values t u) is p
+pub block_whole : {path : Path} {way : Way} {h : ℕ} {size : Size} {address count : ℕ} {values : List ℕ} {b : Bool} {t u : Tells} → b ≡ true
+    → BlockLoadedAs path way h size address count values t u b → BlockLoadedAs path way h size address count values t u true
+block_whole {path} {way} {h} {size} {address} {count} {values} {b} {t} {u} is p = subst (BlockLoadedAs path way h size address count values t u) is p
 
-pub block_refused : {path : Path} {size : Size} {address count : ℕ} {values : List ℕ} {b : Bool} {t u : Tells} → b ≡ false
-    → BlockLoadedAs path size address count values t u b → BlockLoadedAs path size address count values t u false
-block_refused {path} {size} {address} {count} {values} {b} {t} {u} is p = subst (BlockLoadedAs path size address count values t u) is p
+pub block_refused : {path : Path} {way : Way} {h : ℕ} {size : Size} {address count : ℕ} {values : List ℕ} {b : Bool} {t u : Tells} → b ≡ false
+    → BlockLoadedAs path way h size address count values t u b → BlockLoadedAs path way h size address count values t u false
+block_refused {path} {way} {h} {size} {address} {count} {values} {b} {t} {u} is p = subst (BlockLoadedAs path way h size address count values t u) is p
 
-pub all_stored : {path : Path} {size : Size} {address value count : ℕ} {o : Option ℕ} {t u : Tells} → o ≡ None
-    → BlockStoredAs path size address value count t u o → BlockStored path size address value count t u
-all_stored {path} {size} {address} {value} {count} {o} {t} {u} is p = subst (BlockStoredAs path size address value count t u) is p
+pub all_stored : {path : Path} {way : Way} {h : ℕ} {size : Size} {address value count : ℕ} {o : Option ℕ} {t u : Tells} → o ≡ None
+    → BlockStoredAs path way h size address value count t u o → BlockStored path way h size address value count t u
+all_stored {path} {way} {h} {size} {address} {value} {count} {o} {t} {u} is p = subst (BlockStoredAs path way h size address value count t u) is p
 
-pub some_stored : {path : Path} {size : Size} {address value count at : ℕ} {o : Option ℕ} {t u : Tells} → o ≡ Some at
-    → BlockStoredAs path size address value count t u o → RefusedStore path size address value count at t u
-some_stored {path} {size} {address} {value} {count} {at} {o} {t} {u} is p = subst (BlockStoredAs path size address value count t u) is p
+pub some_stored : {path : Path} {way : Way} {h : ℕ} {size : Size} {address value count at : ℕ} {o : Option ℕ} {t u : Tells} → o ≡ Some at
+    → BlockStoredAs path way h size address value count t u o → RefusedStore path way h size address value count at t u
+some_stored {path} {way} {h} {size} {address} {value} {count} {at} {o} {t} {u} is p = subst (BlockStoredAs path way h size address value count t u) is p

@@ -8,6 +8,7 @@ use Rattle.debug_model.specs.Kept.{DmiSeen}
 use Rattle.debug_model.specs.Module.{DebugModule, Site}
 use Rattle.debug_model.specs.Scan.{WhereTold}
 use Rattle.debug_model.specs.Told.{Far, IsReady, Selects, site_of}
+use Rattle.abstract_debugger.specs.Ways.Way.{Idle, Still}
 use Rattle.probe_access.specs.Accesses.{OneBusAccess}
 use Rattle.rv_model.specs.Memory.{Memory}
 use Rattle.probe_access.specs.BusBlocks.{BusLoadedEach, BusStoredEach}
@@ -106,24 +107,25 @@ told_stays R (Some f) new to w = to f.live.chip w
 
 -- by the hart, which is selected before and behind
 hart_loaded : (h : ℕ) (size : Size) (address count : ℕ) (values : List ℕ) (old new : Tells) (whole : Bool)
-    → BlockLoadedAs Progbuf size address count values old new whole → Selects h old.far → Selects h new.far → Stays old.far new.far
-hart_loaded h size address count values old new true (e, BlockLoaded.by_hart held is runs fetched saw) before behind =
+    → BlockLoadedAs Progbuf Still h size address count values old new whole → Selects h old.far → Selects h new.far → Stays old.far new.far
+hart_loaded h size address count values old new true (e, BlockLoaded.by_hart held is is_known serving runs fetched saw) before behind =
     stays_by h _ old.far new.far (λ c r. record { far = r.far; is = r.is }) saw before behind
-hart_loaded h size address count values old new false (e, BlockLoadedNone.by_hart held n m k is runs fetched saw) before behind =
+hart_loaded h size address count values old new false (e, BlockLoadedNone.by_hart held n m k is is_known serving runs fetched saw) before behind =
     stays_by h _ old.far new.far (λ c r. record { far = r.far; is = r.is }) saw before behind
 
 hart_stored : (h : ℕ) (size : Size) (address value count : ℕ) (old new : Tells) (refused : Option ℕ)
-    → BlockStoredAs Progbuf size address value count old new refused → Selects h old.far → Selects h new.far → Stays old.far new.far
-hart_stored h size address value count old new None (BlockStored.by_hart runs saw) before behind =
+    → BlockStoredAs Progbuf Still h size address value count old new refused → Selects h old.far → Selects h new.far → Stays old.far new.far
+hart_stored h size address value count old new None (BlockStored.by_hart is_known serving runs saw) before behind =
     stays_by h _ old.far new.far (λ c r. record { far = r.far; is = r.is }) saw before behind
 hart_stored h size address value count old new (Some at) refused before behind = by_none refused.none
   where
-    by_none : BlockStoredNone Progbuf size address value refused.done old new → Stays old.far new.far
-    by_none (BlockStoredNone.by_hart n m k runs saw) = stays_by h _ old.far new.far (λ c r. record { far = r.far; is = r.is }) saw before behind
+    by_none : BlockStoredNone Progbuf Still h size address value refused.done old new → Stays old.far new.far
+    by_none (BlockStoredNone.by_hart n m k is_known serving runs saw) =
+        stays_by h _ old.far new.far (λ c r. record { far = r.far; is = r.is }) saw before behind
 
 -- by the bus
 bus_loaded : (size : Size) (address count : ℕ) (values : List ℕ) (old new : Tells) (whole : Bool)
-    → BlockLoadedAs Bus size address count values old new whole → Stays old.far new.far
+    → BlockLoadedAs Bus Idle 0 size address count values old new whole → Stays old.far new.far
 bus_loaded size address count values old new true (e, BlockLoaded.by_bus held is runs saw) =
     told_stays _ old.far new.far (λ c r. record { far = r.far; is = r.is; hartsel = loads_same size address _ (site_of r.far) values r.each }) saw
 bus_loaded size address count values old new false (e, BlockLoadedNone.by_bus held is runs saw) =
@@ -134,12 +136,12 @@ bus_loaded size address count values old new false (e, BlockLoadedNone.by_bus he
     }) saw
 
 bus_stored : (size : Size) (address value count : ℕ) (old new : Tells) (refused : Option ℕ)
-    → BlockStoredAs Bus size address value count old new refused → Stays old.far new.far
+    → BlockStoredAs Bus Idle 0 size address value count old new refused → Stays old.far new.far
 bus_stored size address value count old new None (BlockStored.by_bus runs saw) =
     told_stays _ old.far new.far (λ c r. record { far = r.far; is = r.is; hartsel = stores_same size address value _ (site_of r.far) count r.each }) saw
 bus_stored size address value count old new (Some at) refused = by_none refused.done refused.none
   where
-    by_none : (done : ℕ) → BlockStoredNone Bus size address value done old new → Stays old.far new.far
+    by_none : (done : ℕ) → BlockStoredNone Bus Idle 0 size address value done old new → Stays old.far new.far
     by_none done (BlockStoredNone.by_bus n runs saw) =
         told_stays _ old.far new.far (λ c r. record {
           far = r.far;
@@ -151,25 +153,25 @@ bus_stored size address value count old new (Some at) refused = by_none refused.
 -- as the calls answer
 
 pub hart_load_stays : (h : ℕ) (size : Size) (address count : ℕ) (values : List ℕ) (s t : DmiSeen) (result : Result Bool Failure)
-    → IfOk result (BlockLoadedAs Progbuf size address count values (told s) (told t)) → AttachedHalted h s
+    → IfOk result (BlockLoadedAs Progbuf Still h size address count values (told s) (told t)) → AttachedHalted h s
     → Goes (λ (_ : Bool). AttachedHalted h) s t result → OnOk result (Stays s.far t.far)
 hart_load_stays h size address count values s t (Ok whole) loaded before keeps =
     hart_loaded h size address count values (told s) (told t) whole loaded before.serving.selects keeps.behind.serving.selects
 hart_load_stays h size address count values s t (Err f) loaded before keeps = tt
 
 pub hart_store_stays : (h : ℕ) (size : Size) (address value count : ℕ) (s t : DmiSeen) (result : Result (Option ℕ) Failure)
-    → IfOk result (BlockStoredAs Progbuf size address value count (told s) (told t)) → AttachedHalted h s
+    → IfOk result (BlockStoredAs Progbuf Still h size address value count (told s) (told t)) → AttachedHalted h s
     → Goes (λ (_ : Option ℕ). AttachedHalted h) s t result → OnOk result (Stays s.far t.far)
 hart_store_stays h size address value count s t (Ok refused) stored before keeps =
     hart_stored h size address value count (told s) (told t) refused stored before.serving.selects keeps.behind.serving.selects
 hart_store_stays h size address value count s t (Err f) stored before keeps = tt
 
 pub bus_load_stays : (size : Size) (address count : ℕ) (values : List ℕ) (s t : DmiSeen) (result : Result Bool Failure)
-    → IfOk result (BlockLoadedAs Bus size address count values (told s) (told t)) → OnOk result (Stays s.far t.far)
+    → IfOk result (BlockLoadedAs Bus Idle 0 size address count values (told s) (told t)) → OnOk result (Stays s.far t.far)
 bus_load_stays size address count values s t (Ok whole) loaded = bus_loaded size address count values (told s) (told t) whole loaded
 bus_load_stays size address count values s t (Err f) loaded = tt
 
 pub bus_store_stays : (size : Size) (address value count : ℕ) (s t : DmiSeen) (result : Result (Option ℕ) Failure)
-    → IfOk result (BlockStoredAs Bus size address value count (told s) (told t)) → OnOk result (Stays s.far t.far)
+    → IfOk result (BlockStoredAs Bus Idle 0 size address value count (told s) (told t)) → OnOk result (Stays s.far t.far)
 bus_store_stays size address value count s t (Ok refused) stored = bus_stored size address value count (told s) (told t) refused stored
 bus_store_stays size address value count s t (Err f) stored = tt

@@ -6,6 +6,7 @@ use Rattle.debug_model.specs.declared.dmi.DmiFault.{DmiFault}
 use Rattle.debug_model.specs.declared.dmi.DmiFault.TheVariants as dmi_fault
 use Rattle.abstract_debugger.specs.Plan.{Plan}
 use Rattle.abstract_debugger.specs.Lines.{Line}
+use Rattle.abstract_debugger.specs.Ways.{Way}
 use Rattle.probe_access.specs.declared.fault.AccessFault.{AccessFault}
 use Rattle.probe_access.specs.declared.fault.AccessFault.TheVariants as fault
 use Rattle.probe_run.specs.declared.fault.RunFault.{RunFault}
@@ -56,14 +57,14 @@ of_access (fault.Odd shown) f is = subst IsNotSink (sym is) tt
 
 -- ---- a call that failed
 
-pub of_load : {path : Path} (size : Size) (address count old_count new_count : ℕ) (old new : Tells) (f : Failure)
-    → BlockLoadFell path size address count old_count new_count old new f → IsNotSink f
-of_load size address count old_count new_count old new f (BlockLoadFell.by_hart h why held at later heard causes told cut is) = of_access why f is
+pub of_load : {path : Path} {way : Way} {h : ℕ} (size : Size) (address count old_count new_count : ℕ) (old new : Tells) (f : Failure)
+    → BlockLoadFell path way h size address count old_count new_count old new f → IsNotSink f
+of_load size address count old_count new_count old new f (BlockLoadFell.by_hart why held known at later heard causes told cut is) = of_access why f is
 of_load size address count old_count new_count old new f (BlockLoadFell.by_bus why held at later causes told cut is) = of_access why f is
 
-pub of_store : {path : Path} (size : Size) (address value count old_count new_count : ℕ) (old new : Tells) (f : Failure)
-    → BlockStoreFell path size address value count old_count new_count old new f → IsNotSink f
-of_store size address value count old_count new_count old new f (BlockStoreFell.by_hart h why at later heard causes told cut is) = of_access why f is
+pub of_store : {path : Path} {way : Way} {h : ℕ} (size : Size) (address value count old_count new_count : ℕ) (old new : Tells) (f : Failure)
+    → BlockStoreFell path way h size address value count old_count new_count old new f → IsNotSink f
+of_store size address value count old_count new_count old new f (BlockStoreFell.by_hart why known at later heard causes told cut is) = of_access why f is
 of_store size address value count old_count new_count old new f (BlockStoreFell.by_bus why at later causes told cut is) = of_access why f is
 
 pub of_fault : (p : Place) (old_count new_count : ℕ) (old new : Tells) (f : Failure) → Fault p old_count new_count old new f → IsNotSink f

@@ -3,6 +3,7 @@
 use Rattle.std.specs.Prelude.{◌≡◌, ◌<◌, ℕ, Bool, true, false, List, length, Option, Some, None}
 use Rattle.rv_model.specs.declared.size.Size.{Size}
 use Rattle.debug_model.specs.declared.command.Path.{Path}
+use Rattle.abstract_debugger.specs.Ways.{Way}
 use Rattle.probe_run.specs.Acts.{Tells}
 use Rattle.debug_model.specs.declared.slot_use.SlotUse.{SlotUse}
 use Rattle.probe_access.specs.Blocks.{element_at}
@@ -22,20 +23,20 @@ WrittenAs h number value old new true = Gave h number value old new
 WrittenAs h number value old new false = GaveNone h number value old new
 
 -- all of a block's elements, or those in front of one that was refused
-abbrev pub BlockLoadedAs : Path → Size → (address count : ℕ) → (values : List ℕ) → (old new : Tells) → Bool → Type 0
-BlockLoadedAs path size address count values old new true = (length values ≡ count) × BlockLoaded path size address values old new
-BlockLoadedAs path size address count values old new false = (length values < count) × BlockLoadedNone path size address values old new
+abbrev pub BlockLoadedAs : Path → Way → (h : ℕ) → Size → (address count : ℕ) → (values : List ℕ) → (old new : Tells) → Bool → Type 0
+BlockLoadedAs path way h size address count values old new true = (length values ≡ count) × BlockLoaded path way h size address values old new
+BlockLoadedAs path way h size address count values old new false = (length values < count) × BlockLoadedNone path way h size address values old new
 
 -- to all of them, or to those in front of the one at this address
-pub record RefusedStore (path : Path) (size : Size) (address value count at : ℕ) (old new : Tells) : Type 0 where
+pub record RefusedStore (path : Path) (way : Way) (h : ℕ) (size : Size) (address value count at : ℕ) (old new : Tells) : Type 0 where
   pub done : ℕ
   pub below : done < count
   pub at_is : at ≡ element_at size address done
-  pub none : BlockStoredNone path size address value done old new
+  pub none : BlockStoredNone path way h size address value done old new
 
-abbrev pub BlockStoredAs : Path → Size → (address value count : ℕ) → (old new : Tells) → Option ℕ → Type 0
-BlockStoredAs path size address value count old new None = BlockStored path size address value count old new
-BlockStoredAs path size address value count old new (Some at) = RefusedStore path size address value count at old new
+abbrev pub BlockStoredAs : Path → Way → (h : ℕ) → Size → (address value count : ℕ) → (old new : Tells) → Option ℕ → Type 0
+BlockStoredAs path way h size address value count old new None = BlockStored path way h size address value count old new
+BlockStoredAs path way h size address value count old new (Some at) = RefusedStore path way h size address value count at old new
 
 abbrev pub TakenAs : (h : ℕ) → SlotUse → (old new : Tells) → Option ℕ → Type 0
 TakenAs h meant old new (Some slot) = SlotTaken h meant slot old new

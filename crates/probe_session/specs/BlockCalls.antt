@@ -1,5 +1,6 @@
 -- One call of the layers below on a block of memory: what was heard of the link, and what happened at a chip that is told.
--- It is this project's own. The path is the one that the elements were accessed on.
+-- It is this project's own. The path is the one that the elements were accessed on, and the way and the hart are those of the session's place: by the
+-- program buffer that hart makes the accesses, which must be known to be halted there.
 use Rattle.std.specs.Prelude.{◌≡◌, ◌≤◌, ◌<◌, ℕ, List, length, map}
 use Rattle.rv_model.specs.declared.size.Size.{Size}
 use Rattle.debug_model.specs.declared.command.Path.{Path}
@@ -7,6 +8,7 @@ use Rattle.debug_model.specs.declared.command.Path.TheVariants.{Progbuf, Bus}
 use Rattle.debug_model.specs.Module.{Site}
 use Rattle.debug_model.specs.Scan.{WhereTold}
 use Rattle.debug_model.specs.Told.{IsReady}
+use Rattle.abstract_debugger.specs.Ways.{Way}
 use Rattle.probe_access.specs.declared.fault.AccessFault.{AccessFault}
 use Rattle.probe_access.specs.declared.fault.AccessFault.TheVariants as fault
 use Rattle.probe_access.specs.Accesses.{BusStoreRefused, BusStoredAt}
@@ -24,42 +26,45 @@ use Rattle.probe_run.specs.Acts.{Tells}
 use Rattle.probe_run.specs.Told.{Serving}
 use Rattle.probe_session.specs.declared.fault.Failure.{Failure}
 use Rattle.probe_session.specs.Failures.{Became}
+use Rattle.probe_session.specs.Places.{IsKnownHalted}
 
 -- ---- calls that were Ok
 
 -- the elements from an address on were read; what was handed out may hold more above the size, which is left out
-pub data BlockLoaded : Path → (size : Size) → (address : ℕ) → (values : List ℕ) → (old new : Tells) → Type 0 where
-  by_hart : {size : Size} {address : ℕ} {values : List ℕ} {old new : Tells} (held : List ℕ) → values ≡ map (cut_to size) held
-      → LoadRuns size address (length held) old held new → Fetched (is_wide size) held old new
-      → WhereTold (BlockLoadedAt size address values) old.far new.far → BlockLoaded Progbuf size address values old new
-  by_bus : {size : Size} {address : ℕ} {values : List ℕ} {old new : Tells} (held : List ℕ) → values ≡ map (cut_to size) held
+pub data BlockLoaded : Path → Way → (h : ℕ) → (size : Size) → (address : ℕ) → (values : List ℕ) → (old new : Tells) → Type 0 where
+  by_hart : {way : Way} {size : Size} {h address : ℕ} {values : List ℕ} {old new : Tells} (held : List ℕ) → values ≡ map (cut_to size) held
+      → IsKnownHalted way → Serving h old.far → LoadRuns size address (length held) old held new → Fetched (is_wide size) held old new
+      → WhereTold (BlockLoadedAt size address values) old.far new.far → BlockLoaded Progbuf way h size address values old new
+  by_bus : {way : Way} {size : Size} {h address : ℕ} {values : List ℕ} {old new : Tells} (held : List ℕ) → values ≡ map (cut_to size) held
       → BusLoads size address old held new
-      → WhereTold (BusBlockLoadedAt size address values) old.far new.far → BlockLoaded Bus size address values old new
+      → WhereTold (BusBlockLoadedAt size address values) old.far new.far → BlockLoaded Bus way h size address values old new
 
 -- those in front were read, and the chip refused the next
-pub data BlockLoadedNone : Path → (size : Size) → (address : ℕ) → (values : List ℕ) → (old new : Tells) → Type 0 where
-  by_hart : {size : Size} {address : ℕ} {values : List ℕ} {old new : Tells} (held : List ℕ) (count old_count new_count : ℕ)
-      → values ≡ map (cut_to size) held
-      → LoadRunsFailed size address count held old_count new_count old new (fault.Memory (element_at size address (length held))) → Fetched (is_wide size) held old new
-      → WhereTold (BlockLoadRefused size address values) old.far new.far → BlockLoadedNone Progbuf size address values old new
-  by_bus : {size : Size} {address : ℕ} {values : List ℕ} {old new : Tells} (held : List ℕ) → values ≡ map (cut_to size) held
+pub data BlockLoadedNone : Path → Way → (h : ℕ) → (size : Size) → (address : ℕ) → (values : List ℕ) → (old new : Tells) → Type 0 where
+  by_hart : {way : Way} {size : Size} {h address : ℕ} {values : List ℕ} {old new : Tells} (held : List ℕ) (count old_count new_count : ℕ)
+      → values ≡ map (cut_to size) held → IsKnownHalted way → Serving h old.far
+      → LoadRunsFailed size address count held old_count new_count old new (fault.Memory (element_at size address (length held)))
+      → Fetched (is_wide size) held old new
+      → WhereTold (BlockLoadRefused size address values) old.far new.far → BlockLoadedNone Progbuf way h size address values old new
+  by_bus : {way : Way} {size : Size} {h address : ℕ} {values : List ℕ} {old new : Tells} (held : List ℕ) → values ≡ map (cut_to size) held
       → BusLoadsRefused size address held old new
-      → WhereTold (BusBlockLoadRefused size address values) old.far new.far → BlockLoadedNone Bus size address values old new
+      → WhereTold (BusBlockLoadRefused size address values) old.far new.far → BlockLoadedNone Bus way h size address values old new
 
 -- a value was written to so many elements from an address on
-pub data BlockStored : Path → (size : Size) → (address value count : ℕ) → (old new : Tells) → Type 0 where
-  by_hart : {size : Size} {address value count : ℕ} {old new : Tells} → StoreRuns size address value old count new
-      → WhereTold (BlockStoredAt size address value count) old.far new.far → BlockStored Progbuf size address value count old new
-  by_bus : {size : Size} {address value count : ℕ} {old new : Tells} → BusStores size address value old count new
-      → WhereTold (BusBlockStoredAt size address value count) old.far new.far → BlockStored Bus size address value count old new
+pub data BlockStored : Path → Way → (h : ℕ) → (size : Size) → (address value count : ℕ) → (old new : Tells) → Type 0 where
+  by_hart : {way : Way} {size : Size} {h address value count : ℕ} {old new : Tells} → IsKnownHalted way → Serving h old.far
+      → StoreRuns size address value old count new
+      → WhereTold (BlockStoredAt size address value count) old.far new.far → BlockStored Progbuf way h size address value count old new
+  by_bus : {way : Way} {size : Size} {h address value count : ℕ} {old new : Tells} → BusStores size address value old count new
+      → WhereTold (BusBlockStoredAt size address value count) old.far new.far → BlockStored Bus way h size address value count old new
 
 -- to so many, and the chip refused the next
-pub data BlockStoredNone : Path → (size : Size) → (address value done : ℕ) → (old new : Tells) → Type 0 where
-  by_hart : {size : Size} {address value done : ℕ} {old new : Tells} (count old_count new_count : ℕ)
+pub data BlockStoredNone : Path → Way → (h : ℕ) → (size : Size) → (address value done : ℕ) → (old new : Tells) → Type 0 where
+  by_hart : {way : Way} {size : Size} {h address value done : ℕ} {old new : Tells} (count old_count new_count : ℕ) → IsKnownHalted way → Serving h old.far
       → StoreRunsFailed size address value count old_count new_count old new (fault.Memory (element_at size address done))
-      → WhereTold (BlockStoreRefused size address value done) old.far new.far → BlockStoredNone Progbuf size address value done old new
-  by_bus : {size : Size} {address value done : ℕ} {old new : Tells} (count : ℕ) → BusStoresRefused size address value count old new
-      → WhereTold (BusBlockStoreRefused size address value done) old.far new.far → BlockStoredNone Bus size address value done old new
+      → WhereTold (BlockStoreRefused size address value done) old.far new.far → BlockStoredNone Progbuf way h size address value done old new
+  by_bus : {way : Way} {size : Size} {h address value done : ℕ} {old new : Tells} (count : ℕ) → BusStoresRefused size address value count old new
+      → WhereTold (BusBlockStoreRefused size address value done) old.far new.far → BlockStoredNone Bus way h size address value done old new
 
 -- one value was written by the system bus, in a call of its own
 pub record ElementStored (size : Size) (address value : ℕ) (old new : Tells) : Type 0 where
@@ -102,24 +107,24 @@ abbrev pub BusStoresCut : Size → (address value count : ℕ) → Site → Site
 BusStoresCut size address value count s t =
     SomeStored (BusStoredEach size address value) BusBefore (λ done. BusBehind (StoreLeaves size (element_at size address done) value)) count s t
 
-pub data BlockLoadFell : Path → (size : Size) → (address count old_count new_count : ℕ) → (old new : Tells) → Failure → Type 0 where
-  by_hart : {size : Size} {address count old_count new_count : ℕ} {old new : Tells} {f : Failure} (h : ℕ) (why : AccessFault) (held : List ℕ)
-      → Serving h old.far → old_count ≤ new_count
+pub data BlockLoadFell : Path → Way → (h : ℕ) → (size : Size) → (address count old_count new_count : ℕ) → (old new : Tells) → Failure → Type 0 where
+  by_hart : {way : Way} {size : Size} {h address count old_count new_count : ℕ} {old new : Tells} {f : Failure} (why : AccessFault) (held : List ℕ)
+      → IsKnownHalted way → Serving h old.far → old_count ≤ new_count
       → LoadRunsFailed size address count held old_count new_count old new why → Causes old_count new_count old new why
       → BlockLoadLeft size address count held old.far new.far why → IfCut (Leaves (LoadsCut size address count h) old.far new.far) why
-      → Became why f → BlockLoadFell Progbuf size address count old_count new_count old new f
-  by_bus : {size : Size} {address count old_count new_count : ℕ} {old new : Tells} {f : Failure} (why : AccessFault) (held : List ℕ)
+      → Became why f → BlockLoadFell Progbuf way h size address count old_count new_count old new f
+  by_bus : {way : Way} {size : Size} {h address count old_count new_count : ℕ} {old new : Tells} {f : Failure} (why : AccessFault) (held : List ℕ)
       → IsReady old.far → old_count ≤ new_count → BusCauses old_count new_count old new why
       → BusBlockLoadLeft size address count held old.far new.far why → IfCut (Leaves (BusLoadsCut size address count) old.far new.far) why
-      → Became why f → BlockLoadFell Bus size address count old_count new_count old new f
+      → Became why f → BlockLoadFell Bus way h size address count old_count new_count old new f
 
-pub data BlockStoreFell : Path → (size : Size) → (address value count old_count new_count : ℕ) → (old new : Tells) → Failure → Type 0 where
-  by_hart : {size : Size} {address value count old_count new_count : ℕ} {old new : Tells} {f : Failure} (h : ℕ) (why : AccessFault)
-      → Serving h old.far → old_count ≤ new_count
+pub data BlockStoreFell : Path → Way → (h : ℕ) → (size : Size) → (address value count old_count new_count : ℕ) → (old new : Tells) → Failure → Type 0 where
+  by_hart : {way : Way} {size : Size} {h address value count old_count new_count : ℕ} {old new : Tells} {f : Failure} (why : AccessFault)
+      → IsKnownHalted way → Serving h old.far → old_count ≤ new_count
       → StoreRunsFailed size address value count old_count new_count old new why → Causes old_count new_count old new why
       → BlockStoreLeft size address count value old.far new.far why → IfCut (Leaves (StoresCut size address value count h) old.far new.far) why
-      → Became why f → BlockStoreFell Progbuf size address value count old_count new_count old new f
-  by_bus : {size : Size} {address value count old_count new_count : ℕ} {old new : Tells} {f : Failure} (why : AccessFault)
+      → Became why f → BlockStoreFell Progbuf way h size address value count old_count new_count old new f
+  by_bus : {way : Way} {size : Size} {h address value count old_count new_count : ℕ} {old new : Tells} {f : Failure} (why : AccessFault)
       → IsReady old.far → old_count ≤ new_count → BusCauses old_count new_count old new why
       → BusBlockStoreLeft size address count value old.far new.far why → IfCut (Leaves (BusStoresCut size address value count) old.far new.far) why
-      → Became why f → BlockStoreFell Bus size address value count old_count new_count old new f
+      → Became why f → BlockStoreFell Bus way h size address value count old_count new_count old new f

@@ -93,10 +93,10 @@ pub data Fault : Place → ℕ → ℕ → Tells → Tells → Failure → Type 
   stopping : {h old_count new_count : ℕ} {p : Plan} {old new : Tells} {f : Failure} → StopFell h old_count new_count old new f
       → Fault (still h p) old_count new_count old new f
   loading_block : {path : Path} {way : Way} {h address count old_count new_count : ℕ} {size : Size} {p : Plan} {old new : Tells} {f : Failure}
-      → MayLoad path size address count p → BlockLoadFell path size address count old_count new_count old new f
+      → MayLoad path size address count p → BlockLoadFell path way h size address count old_count new_count old new f
       → Fault (place way h p) old_count new_count old new f
   storing_block : {path : Path} {way : Way} {h address value count old_count new_count : ℕ} {size : Size} {p to : Plan} {old new : Tells} {f : Failure}
-      → Stores path size value address count p to → BlockStoreFell path size address value count old_count new_count old new f
+      → Stores path size value address count p to → BlockStoreFell path way h size address value count old_count new_count old new f
       → Fault (place way h p) old_count new_count old new f
 
 -- it went so far, and there a call failed

@@ -31,6 +31,12 @@ still h p = place Still h p
 abbrev pub ready : ℕ → Plan → Place
 ready h p = place Ready h p
 
+-- on these ways it is
+abbrev pub IsKnownHalted : Way → Type 0
+IsKnownHalted Still = Unit {0}
+IsKnownHalted Ready = Unit {0}
+IsKnownHalted _ = ⊥
+
 -- ---- lines
 
 -- The IDCODE, and that a register which is never written was refused, are what a plan says of every chip beforehand: so these lines want the call that

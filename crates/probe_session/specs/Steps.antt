@@ -152,18 +152,18 @@ pub data Step : Place → Tells → List Line → Place → Tells → Type 0 whe
       → Step (still h (freeing h slot next)) old [] (still h (say (Line.SlotNotInUse slot) next)) new
   -- memory: one call for a whole block, of the path that the plan takes at each element, and the lines of all its elements
   loads_block : {path : Path} {way : Way} {h address : ℕ} {size : Size} {values : List ℕ} {said : List Line} {from to : Plan} {old new : Tells}
-      → Loads path size address from values said to → BlockLoaded path size address values old new
+      → Loads path size address from values said to → BlockLoaded path way h size address values old new
       → Step (place way h from) old said (place way h to) new
   loads_block_none : {path : Path} {way : Way} {h address : ℕ} {size : Size} {values : List ℕ} {said : List Line} {from faulted : Plan} (read : ℕ → Plan)
       {old new : Tells} → Loads path size address from values said (loading path size (element_at size address (length values)) faulted read)
-      → BlockLoadedNone path size address values old new
+      → BlockLoadedNone path way h size address values old new
       → Step (place way h from) old said (place way h faulted) new
   stores_block : {path : Path} {way : Way} {h address value count : ℕ} {size : Size} {from to : Plan} {old new : Tells}
-      → Stores path size value address count from to → BlockStored path size address value count old new
+      → Stores path size value address count from to → BlockStored path way h size address value count old new
       → Step (place way h from) old [] (place way h to) new
   stores_block_none : {path : Path} {way : Way} {h address value done : ℕ} {size : Size} {from faulted : Plan} (stored : Plan) {old new : Tells}
       → Stores path size value address done from (storing path size (element_at size address done) value faulted stored)
-      → BlockStoredNone path size address value done old new
+      → BlockStoredNone path way h size address value done old new
       → Step (place way h from) old [] (place way h faulted) new
   -- one element in a call of its own
   stores_element : {way : Way} {h address value : ℕ} {size : Size} (faulted stored : Plan) {old new : Tells} → ElementStored size address value old new

@@ -3,6 +3,7 @@
 ghost use Rattle.std.specs.Prelude.{◌≡◌, [], true, map, IfOk, IfErr};
 ghost use Rattle.debug_model.specs.Command.{IsBlock};
 ghost use Rattle.debug_model.specs.declared.command.Path.TheVariants.{Progbuf, Bus};
+ghost use Rattle.abstract_debugger.specs.Ways.Way.{Idle, Still};
 ghost use Rattle.rv_model.specs.Memory.{is_aligned};
 ghost use Rattle.rv_model.specs.Size.{count_of};
 ghost use Rattle.probe_access.specs.BusRuns.{cut_to};
@@ -36,9 +37,9 @@ pub(crate) fn load<D: Dmi>(
     requires aligned { is_aligned address size ≡ true }
     requires block { IsBlock (count_of size) address count }
     requires empty { into.old.items ≡ [] }
-    ensures loaded { IfOk result (BlockLoadedAs Progbuf size address count (map (cut_to size) into.new.items) (told (D.seen link.old))
+    ensures loaded { IfOk result (BlockLoadedAs Progbuf Still halted.now.number size address count (map (cut_to size) into.new.items) (told (D.seen link.old))
         (told (D.seen link.new))) }
-    ensures fell { IfErr result (Fails (BlockLoadFell Progbuf size address count) (D.seen link.old) (D.seen link.new)) }
+    ensures fell { IfErr result (Fails (BlockLoadFell Progbuf Still halted.now.number size address count) (D.seen link.old) (D.seen link.new)) }
     ensures rises { Within (load_rises count) (D.seen link.old) (D.seen link.new) }
     ensures keeps { Goes (λ _. AttachedHalted halted.now.number) (D.seen link.old) (D.seen link.new) result }
 {
@@ -63,8 +64,8 @@ pub(crate) fn store<D: Dmi>(
     requires serving { AttachedHalted halted.now.number (D.seen link.old) }
     requires aligned { is_aligned address size ≡ true }
     requires block { IsBlock (count_of size) address count }
-    ensures stored { IfOk result (BlockStoredAs Progbuf size address value count (told (D.seen link.old)) (told (D.seen link.new))) }
-    ensures fell { IfErr result (Fails (BlockStoreFell Progbuf size address value count) (D.seen link.old) (D.seen link.new)) }
+    ensures stored { IfOk result (BlockStoredAs Progbuf Still halted.now.number size address value count (told (D.seen link.old)) (told (D.seen link.new))) }
+    ensures fell { IfErr result (Fails (BlockStoreFell Progbuf Still halted.now.number size address value count) (D.seen link.old) (D.seen link.new)) }
     ensures rises { Within (store_rises count) (D.seen link.old) (D.seen link.new) }
     ensures keeps { Goes (λ _. AttachedHalted halted.now.number) (D.seen link.old) (D.seen link.new) result }
 {
@@ -89,9 +90,9 @@ pub(crate) fn bus_load<D: Dmi>(
     requires aligned { is_aligned address size ≡ true }
     requires block { IsBlock (count_of size) address count }
     requires empty { into.old.items ≡ [] }
-    ensures loaded { IfOk result (BlockLoadedAs Bus size address count (map (cut_to size) into.new.items) (told (D.seen link.old))
+    ensures loaded { IfOk result (BlockLoadedAs Bus Idle 0 size address count (map (cut_to size) into.new.items) (told (D.seen link.old))
         (told (D.seen link.new))) }
-    ensures fell { IfErr result (Fails (BlockLoadFell Bus size address count) (D.seen link.old) (D.seen link.new)) }
+    ensures fell { IfErr result (Fails (BlockLoadFell Bus Idle 0 size address count) (D.seen link.old) (D.seen link.new)) }
     ensures rises { Within (bus_load_rises count) (D.seen link.old) (D.seen link.new) }
     ensures keeps { Goes (λ _. Attached) (D.seen link.old) (D.seen link.new) result }
 {
@@ -115,8 +116,8 @@ pub(crate) fn bus_store<D: Dmi>(
     requires serving { Attached (D.seen link.old) }
     requires aligned { is_aligned address size ≡ true }
     requires block { IsBlock (count_of size) address count }
-    ensures stored { IfOk result (BlockStoredAs Bus size address value count (told (D.seen link.old)) (told (D.seen link.new))) }
-    ensures fell { IfErr result (Fails (BlockStoreFell Bus size address value count) (D.seen link.old) (D.seen link.new)) }
+    ensures stored { IfOk result (BlockStoredAs Bus Idle 0 size address value count (told (D.seen link.old)) (told (D.seen link.new))) }
+    ensures fell { IfErr result (Fails (BlockStoreFell Bus Idle 0 size address value count) (D.seen link.old) (D.seen link.new)) }
     ensures rises { Within (bus_store_rises count) (D.seen link.old) (D.seen link.new) }
     ensures keeps { Goes (λ _. Attached) (D.seen link.old) (D.seen link.new) result }
 {

@@ -11,7 +11,7 @@ ghost use Rattle.probe_session.specs.Commands.{state_of};
 ghost use Rattle.probe_session.specs.Goes.{Falls};
 ghost use Rattle.probe_session.specs.Known.{Knows, known_by};
 ghost use Rattle.probe_session.specs.Links.{Attached, Goes, SelectionStays};
-ghost use Rattle.probe_session.specs.Reach.{ReachedAs, AttachedBy, AttachedReached, before_reach, path_by};
+ghost use Rattle.probe_session.specs.Reach.{ReachedAs, AttachedBy, AttachedReached, before_reach, hart_by, path_by, way_by};
 ghost use Rattle.probe_run.specs.Told.{told, Fails, OnChip};
 ghost use Rattle.debug_model.specs.Rises.{Within};
 ghost use Rattle.probe_access.specs.BlockRises.{load_rises, store_rises};
@@ -78,9 +78,10 @@ pub fn load_by<D: Dmi>(
     requires aligned { is_aligned address size ≡ true }
     requires block { IsBlock (count_of size) address count }
     requires empty { into.old.items ≡ [] }
-    ensures loaded { IfOk result (BlockLoadedAs (path_by reach.now) size address count (map (cut_to size) into.new.items) (told (D.seen link.old))
-        (told (D.seen link.new))) }
-    ensures fell { IfErr result (Fails (BlockLoadFell (path_by reach.now) size address count) (D.seen link.old) (D.seen link.new)) }
+    ensures loaded { IfOk result (BlockLoadedAs (path_by reach.now) (way_by reach.now) (hart_by reach.now) size address count
+        (map (cut_to size) into.new.items) (told (D.seen link.old)) (told (D.seen link.new))) }
+    ensures fell { IfErr result (Fails (BlockLoadFell (path_by reach.now) (way_by reach.now) (hart_by reach.now) size address count)
+        (D.seen link.old) (D.seen link.new)) }
     ensures selection { OnOk result (OnChip SelectionStays (D.seen link.old) (D.seen link.new)) }
     ensures rises { Within (load_rises count) (D.seen link.old) (D.seen link.new) }
     ensures keeps { Goes (λ _. AttachedBy reach.now) (D.seen link.old) (D.seen link.new) result }
@@ -103,8 +104,10 @@ pub fn store_by<D: Dmi>(
     requires serving { AttachedBy reach.now (D.seen link.old) }
     requires aligned { is_aligned address size ≡ true }
     requires block { IsBlock (count_of size) address count }
-    ensures stored { IfOk result (BlockStoredAs (path_by reach.now) size address value count (told (D.seen link.old)) (told (D.seen link.new))) }
-    ensures fell { IfErr result (Fails (BlockStoreFell (path_by reach.now) size address value count) (D.seen link.old) (D.seen link.new)) }
+    ensures stored { IfOk result (BlockStoredAs (path_by reach.now) (way_by reach.now) (hart_by reach.now) size address value count
+        (told (D.seen link.old)) (told (D.seen link.new))) }
+    ensures fell { IfErr result (Fails (BlockStoreFell (path_by reach.now) (way_by reach.now) (hart_by reach.now) size address value count)
+        (D.seen link.old) (D.seen link.new)) }
     ensures selection { OnOk result (OnChip SelectionStays (D.seen link.old) (D.seen link.new)) }
     ensures rises { Within (store_rises count) (D.seen link.old) (D.seen link.new) }
     ensures keeps { Goes (λ _. AttachedBy reach.now) (D.seen link.old) (D.seen link.new) result }

@@ -9,6 +9,7 @@ use Rattle.abstract_debugger.specs.Lines.{Line}
 use Rattle.abstract_debugger.specs.Plan.{Plan}
 use Rattle.abstract_debugger.specs.Plan.Plan.{stop}
 use Rattle.abstract_debugger.specs.Plan.PlanEnd.{Done}
+use Rattle.abstract_debugger.specs.Ways.{Way}
 use Rattle.probe_access.specs.declared.fault.AccessFault.{AccessFault}
 use Rattle.probe_access.specs.declared.fault.AccessFault.TheVariants as access_fault
 use Rattle.probe_run.specs.declared.fault.RunFault.{RunFault}
@@ -106,14 +107,15 @@ pub slots_fell : (Whole : List Transfer → Type 0) (h : ℕ) (f : Failure) (old
 slots_fell Whole h f old new r = of_link f old new (of_access r.why f r.is)
     (slots_traced Whole h old.fault_count new.fault_count (told old) (told new) f r)
 
-pub load_fell : {path : Path} (size : Size) (address count : ℕ) (f : Failure) (old new : DmiSeen) → Fails (BlockLoadFell path size address count) old new f
+pub load_fell : {path : Path} {way : Way} {h : ℕ} (size : Size) (address count : ℕ) (f : Failure) (old new : DmiSeen)
+    → Fails (BlockLoadFell path way h size address count) old new f
     → LinkCaused old new f
 load_fell size address count f old new r =
     of_link f old new (of_load size address count old.fault_count new.fault_count (told old) (told new) f r)
     (load_traced size address count old.fault_count new.fault_count (told old) (told new) f r)
 
-pub store_fell : {path : Path} (size : Size) (address value count : ℕ) (f : Failure) (old new : DmiSeen)
-    → Fails (BlockStoreFell path size address value count) old new f → LinkCaused old new f
+pub store_fell : {path : Path} {way : Way} {h : ℕ} (size : Size) (address value count : ℕ) (f : Failure) (old new : DmiSeen)
+    → Fails (BlockStoreFell path way h size address value count) old new f → LinkCaused old new f
 store_fell size address value count f old new r =
     of_link f old new (of_store size address value count old.fault_count new.fault_count (told old) (told new) f r)
     (store_traced size address value count old.fault_count new.fault_count (told old) (told new) f r)

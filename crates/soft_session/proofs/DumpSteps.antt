@@ -78,7 +78,7 @@ no_row : (a : ℕ) → a + 0 ≡ a
 no_row a = omega arith
 
 bytes_led : (r : Reach) (a count : ℕ) (values : List ℕ) (p : Patches) (old new : Tells) → IsReady old.far
-    → BlockLoadedAs (path_by r) B1 a count values old new true → (next : Plan) (t : Table) → Holds p t
+    → BlockLoadedAs (path_by r) (way_by r) (hart_by r) B1 a count values old new true → (next : Plan) (t : Table) → Holds p t
     → Leads (at_rest r (to_dump a count r) next t) old (shown_rows p a values) (place_by r (lower next t)) new
 bytes_led r a count values p old new ready l next t holds =
     let x : Along (path_by r) count a [] next t values 0 = along (path_by r) count a [] next t values 0 (omega (arith, l.0)) in
@@ -106,7 +106,7 @@ at_refused path a count left values next t x here =
     (loading path B1 y (faulted x.begins x.waits next t) (behind_byte path left x.begins x.waits next t))) here (at_first path a _ _ values _ x.loads)
 
 refused_led : (r : Reach) (a count at : ℕ) (values : List ℕ) (p : Patches) (old new : Tells) → IsReady old.far → at ≡ a + length values
-    → BlockLoadedAs (path_by r) B1 a count values old new false → (next : Plan) (t : Table) → Holds p t
+    → BlockLoadedAs (path_by r) (way_by r) (hart_by r) B1 a count values old new false → (next : Plan) (t : Table) → Holds p t
     → Leads (at_rest r (to_dump a count r) next t) old (shown_rows p a values) (place_by r (say (Line.MemoryFault at) (lower next t))) new
 refused_led r a count at values p old new ready at_is l next t holds =
     let left : ℕ = count - (length values + 1) in
@@ -133,7 +133,7 @@ refused_led r a count at values p old new ready at_is l next t holds =
 -- ---- with its lines
 
 pub rows_lines : (r : Reach) (a count : ℕ) (values : List ℕ) (p : Patches) (old new : Tells) (was is : Option (List ℕ)) → IsReady old.far
-    → BlockLoadedAs (path_by r) B1 a count values old new true → is ≡ grown (text_of_all (shown_rows p a values)) was
+    → BlockLoadedAs (path_by r) (way_by r) (hart_by r) B1 a count values old new true → is ≡ grown (text_of_all (shown_rows p a values)) was
     → LinesLed r (to_dump a count r) p false old new was is
 rows_lines r a count values p old new was is ready l put = record {
   said = shown_rows p a values;
@@ -144,7 +144,7 @@ rows_lines r a count values p old new was is ready l put = record {
 }
 
 pub rows_refused : (r : Reach) (a count at : ℕ) (values : List ℕ) (p : Patches) (old new : Tells) (was mid is : Option (List ℕ)) → IsReady old.far
-    → at ≡ a + length values → BlockLoadedAs (path_by r) B1 a count values old new false
+    → at ≡ a + length values → BlockLoadedAs (path_by r) (way_by r) (hart_by r) B1 a count values old new false
     → mid ≡ grown (text_of_all (shown_rows p a values)) was → is ≡ grown (text_of (Line.MemoryFault at)) mid
     → LinesLed r (to_dump a count r) p true old new was is
 rows_refused r a count at values p old new was mid is ready at_is l put more =
@@ -154,7 +154,7 @@ rows_refused r a count at values p old new was mid is ready at_is l put more =
 -- ---- where it did not come to its end
 
 pub dump_cut : (r : Reach) (a count : ℕ) (p : Patches) (old_count new_count : ℕ) (old new : Tells) (was : Option (List ℕ)) (f : Failure) → IsReady old.far
-    → BlockLoadFell (path_by r) B1 a count old_count new_count old new f → RestCut r (to_dump a count r) p old new was was f
+    → BlockLoadFell (path_by r) (way_by r) (hart_by r) B1 a count old_count new_count old new f → RestCut r (to_dump a count r) p old new was was f
 dump_cut r a count p old_count new_count old new was f ready fell =
     fault_short r (to_dump a count r) p (λ next t. shown_dumping (path_by r) count a [] next t) old_count new_count old new was f
     (λ next t holds. to_bytes r a count next p t old ready holds)
@@ -162,7 +162,7 @@ dump_cut r a count p old_count new_count old new was f ready fell =
     (may_dump (path_by r) count next t a [])) fell)
 
 pub rows_cut : (r : Reach) (a count : ℕ) (values : List ℕ) (is_whole : Bool) (p : Patches) (old new : Tells) (was is : Option (List ℕ)) (f : Failure)
-    → f ≡ failure.Sink → IsReady old.far → BlockLoadedAs (path_by r) B1 a count values old new is_whole
+    → f ≡ failure.Sink → IsReady old.far → BlockLoadedAs (path_by r) (way_by r) (hart_by r) B1 a count values old new is_whole
     → GrewByPrefix (text_of_all (shown_rows p a values)) was is → RestCut r (to_dump a count r) p old new was is f
 rows_cut r a count values true p old new was is f sink ready l front =
     lines_short r (to_dump a count r) p (shown_rows p a values) (λ next t. lower next t) old new was is f sink (λ next t q. lower_quiet next t q)
@@ -172,7 +172,7 @@ rows_cut r a count values false p old new was is f sink ready l front =
     (λ next t q. lower_quiet next t q) (λ next t holds. refused_led r a count _ values p old new ready refl l next t holds) front
 
 pub rows_refusal_cut : (r : Reach) (a count at : ℕ) (values : List ℕ) (p : Patches) (old new : Tells) (was mid is : Option (List ℕ)) (f : Failure)
-    → f ≡ failure.Sink → IsReady old.far → at ≡ a + length values → BlockLoadedAs (path_by r) B1 a count values old new false
+    → f ≡ failure.Sink → IsReady old.far → at ≡ a + length values → BlockLoadedAs (path_by r) (way_by r) (hart_by r) B1 a count values old new false
     → mid ≡ grown (text_of_all (shown_rows p a values)) was → GrewByPrefix (text_of (Line.MemoryFault at)) mid is
     → RestCut r (to_dump a count r) p old new was is f
 rows_refusal_cut r a count at values p old new was mid is f sink ready at_is l put front =

@@ -91,7 +91,7 @@ abbrev pub shown_lines : Patches → Size → ℕ → List ℕ → List Line
 shown_lines p size a values = element_lines size a (shown_values (table_of p) size a values)
 
 elements_led : (r : Reach) (size : Size) (a count : ℕ) (values : List ℕ) (p : Patches) (old new : Tells) → is_aligned a size ≡ true → IsReady old.far
-    → BlockLoadedAs (path_by r) size a count values old new true → (next : Plan) (t : Table) → Holds p t
+    → BlockLoadedAs (path_by r) (way_by r) (hart_by r) size a count values old new true → (next : Plan) (t : Table) → Holds p t
     → Leads (at_rest r (to_read size a count r) next t) old (shown_lines p size a values) (place_by r (lower next t)) new
 elements_led r size a count values p old new is ready l next t holds =
     subst (λ vs. Leads (at_rest r (to_read size a count r) next t) old (element_lines size a vs) (place_by r (lower next t)) new)
@@ -102,7 +102,8 @@ elements_led r size a count values p old new is ready l next t holds =
     (Step.loads_block (all_loaded (path_by r) size a count values next t l.0) l.1)))
 
 refused_led : (r : Reach) (size : Size) (a count at : ℕ) (values : List ℕ) (p : Patches) (old new : Tells) → is_aligned a size ≡ true → IsReady old.far
-    → at ≡ element_at size a (length values) → BlockLoadedAs (path_by r) size a count values old new false → (next : Plan) (t : Table) → Holds p t
+    → at ≡ element_at size a (length values) → BlockLoadedAs (path_by r) (way_by r) (hart_by r) size a count values old new false
+    → (next : Plan) (t : Table) → Holds p t
     → Leads (at_rest r (to_read size a count r) next t) old (shown_lines p size a values) (place_by r (say (Line.MemoryFault at) (lower next t))) new
 refused_led r size a count at values p old new is ready at_is l next t holds =
     let left : ℕ = count - (length values + 1) in
@@ -128,7 +129,7 @@ no_error size a [] = refl
 no_error size a (v ∷ values) = no_error size (a + count_of size) values
 
 pub elements_lines : (r : Reach) (size : Size) (a count : ℕ) (values : List ℕ) (p : Patches) (old new : Tells) (was is : Option (List ℕ))
-    → is_aligned a size ≡ true → IsReady old.far → BlockLoadedAs (path_by r) size a count values old new true
+    → is_aligned a size ≡ true → IsReady old.far → BlockLoadedAs (path_by r) (way_by r) (hart_by r) size a count values old new true
     → is ≡ grown (text_of_all (shown_lines p size a values)) was → LinesLed r (to_read size a count r) p false old new was is
 elements_lines r size a count values p old new was is aligned ready l put = record {
   said = shown_lines p size a values;
@@ -153,7 +154,8 @@ with_fault r rest p said at old new was mid is none put more leads = record {
 }
 
 pub refused_lines : (r : Reach) (size : Size) (a count at : ℕ) (values : List ℕ) (p : Patches) (old new : Tells) (was mid is : Option (List ℕ))
-    → is_aligned a size ≡ true → IsReady old.far → at ≡ element_at size a (length values) → BlockLoadedAs (path_by r) size a count values old new false
+    → is_aligned a size ≡ true → IsReady old.far → at ≡ element_at size a (length values)
+    → BlockLoadedAs (path_by r) (way_by r) (hart_by r) size a count values old new false
     → mid ≡ grown (text_of_all (shown_lines p size a values)) was → is ≡ grown (text_of (Line.MemoryFault at)) mid
     → LinesLed r (to_read size a count r) p true old new was is
 refused_lines r size a count at values p old new was mid is aligned ready at_is l put more =
@@ -174,7 +176,7 @@ misaligned_cut r size a count p s was is f sink none front =
     (subst (λ x. GrewByPrefix (text_of (Line.MemoryFault a)) x is) (grown_none was) front)
 
 pub block_cut : (r : Reach) (size : Size) (a count : ℕ) (p : Patches) (old_count new_count : ℕ) (old new : Tells) (was : Option (List ℕ)) (f : Failure)
-    → is_aligned a size ≡ true → IsReady old.far → BlockLoadFell (path_by r) size a count old_count new_count old new f
+    → is_aligned a size ≡ true → IsReady old.far → BlockLoadFell (path_by r) (way_by r) (hart_by r) size a count old_count new_count old new f
     → RestCut r (to_read size a count r) p old new was was f
 block_cut r size a count p old_count new_count old new was f aligned ready fell =
     fault_short r (to_read size a count r) p (λ next t. shown_reading (path_by r) count size a next t) old_count new_count old new was f
@@ -182,7 +184,8 @@ block_cut r size a count p old_count new_count old new was f aligned ready fell 
     (λ next t. Fault.loading_block (may_load (path_by r) count size a next t) fell)
 
 pub elements_cut : (r : Reach) (size : Size) (a count : ℕ) (values : List ℕ) (is_whole : Bool) (p : Patches) (old new : Tells) (was is : Option (List ℕ))
-    (f : Failure) → f ≡ failure.Sink → is_aligned a size ≡ true → IsReady old.far → BlockLoadedAs (path_by r) size a count values old new is_whole
+    (f : Failure) → f ≡ failure.Sink → is_aligned a size ≡ true → IsReady old.far
+        → BlockLoadedAs (path_by r) (way_by r) (hart_by r) size a count values old new is_whole
     → GrewByPrefix (text_of_all (shown_lines p size a values)) was is → RestCut r (to_read size a count r) p old new was is f
 elements_cut r size a count values true p old new was is f sink aligned ready l front =
     lines_short r (to_read size a count r) p (shown_lines p size a values) (λ next t. lower next t) old new was is f sink (λ next t q. lower_quiet next t q)
@@ -194,7 +197,7 @@ elements_cut r size a count values false p old new was is f sink aligned ready l
 
 pub refusal_cut : (r : Reach) (size : Size) (a count at : ℕ) (values : List ℕ) (p : Patches) (old new : Tells) (was mid is : Option (List ℕ)) (f : Failure)
     → f ≡ failure.Sink → is_aligned a size ≡ true → IsReady old.far → at ≡ element_at size a (length values)
-    → BlockLoadedAs (path_by r) size a count values old new false → mid ≡ grown (text_of_all (shown_lines p size a values)) was
+    → BlockLoadedAs (path_by r) (way_by r) (hart_by r) size a count values old new false → mid ≡ grown (text_of_all (shown_lines p size a values)) was
     → GrewByPrefix (text_of (Line.MemoryFault at)) mid is → RestCut r (to_read size a count r) p old new was is f
 refusal_cut r size a count at values p old new was mid is f sink aligned ready at_is l put front =
     line_short r (to_read size a count r) p (shown_lines p size a values) (Line.MemoryFault at) old new was is f sink
