@@ -111,11 +111,13 @@ fn thirty_two_are_set_and_no_more(rt: HostRuntime) -> Result<(), Fail> {
     let mut script = String::new(alloc);
     let mut printed = String::new(alloc);
     let mut covered = Vec::new(alloc);
+    let mut moved_covered = Vec::new(alloc);
     for number in 0..MOST {
         let address = FIRST + 4 * number;
         script = format!(in alloc; "{script}soft {address}\n")?;
         printed = format!(in alloc; "{printed}soft 0x00000000{address:x} set\n")?;
         covered.push(address)?;
+        moved_covered.push(address + 4)?;
     }
     script = format!(in alloc; "{script}soft 0x80000180\n")?;
     printed = format!(in alloc; "{printed}error: no free soft break\n")?;
@@ -132,8 +134,6 @@ fn thirty_two_are_set_and_no_more(rt: HostRuntime) -> Result<(), Fail> {
     check_rows(&rt, alloc, &[full])?;
     let moved_script = format!(in alloc; "{script}{MOVED}")?;
     let moved_printed = format!(in alloc; "{printed}{MOVED_PRINTED}")?;
-    covered.remove(0);
-    covered.push(0x8000_0180)?;
     let moved = Row {
         image: PROGRAM,
         harts: 1,
@@ -141,7 +141,7 @@ fn thirty_two_are_set_and_no_more(rt: HostRuntime) -> Result<(), Fail> {
         printed: moved_printed.as_str(),
         ended: Ended::WithErrors,
         changed: &[],
-        covered: covered.as_slice(),
+        covered: moved_covered.as_slice(),
         accesses: 99,
     };
     check_rows(&rt, alloc, &[moved])

@@ -96,7 +96,7 @@ fn check_meanwhile(rt: &impl Abort, alloc: Global, row: &Row) -> Result<(), Fail
     let text = format!(in alloc; "{}idcode\n", row.script)?;
     let script = parse_soft(alloc, text.as_bytes())?;
     let mut refused = Vec::new(alloc);
-    refused.push(row.printed.lines().count() as u32)?;
+    refused.push(u32::try_from(row.printed.lines().count()).unwrap_or(u32::MAX))?;
     let mut out = MemorySink::new(alloc, AMPLE, refused)?;
     let ended = run_on(&mut bench, &script, &mut out);
     assert_eq!(rt; out.bytes(), row.printed.as_bytes());
