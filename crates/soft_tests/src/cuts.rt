@@ -86,8 +86,8 @@ fn each_cut_leaves_a_front_of_the_lines_and_the_rest_of_memory(
     let alloc = rt.alloc();
     let whole = format!(in alloc; "{BEFORE_STEP}{BEHIND_STEP}")?;
     let mut before = 0;
-    let mut covered_cuts: u32 = 0;
-    let mut lifted_cuts: u32 = 0;
+    let mut was_covered = false;
+    let mut was_lifted = false;
     let mut ended = None;
     for call in 1..CALLS_MOST {
         let cut = check_cut(&rt, alloc, call, whole.as_str())?;
@@ -99,10 +99,10 @@ fn each_cut_leaves_a_front_of_the_lines_and_the_rest_of_memory(
         }
         assert!(rt; matches!(cut.ended, Ended::Wire(_)), "call {call}");
         match cut.word {
-            Some(EBREAK) => covered_cuts += 1,
+            Some(EBREAK) => was_covered = true,
             Some(JUMP) => {
                 if cut.printed == BEFORE_STEP.len() {
-                    lifted_cuts += 1;
+                    was_lifted = true;
                 }
             }
             _ => assert!(rt; false, "call {call}"),
@@ -110,7 +110,7 @@ fn each_cut_leaves_a_front_of_the_lines_and_the_rest_of_memory(
     }
     assert_eq!(rt; ended, Some(Ended::Clean));
     assert_eq!(rt; before, whole.len());
-    assert!(rt; covered_cuts > 0);
-    assert!(rt; lifted_cuts > 0);
+    assert!(rt; was_covered);
+    assert!(rt; was_lifted);
     Ok(())
 }
