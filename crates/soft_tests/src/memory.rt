@@ -1,0 +1,162 @@
+//! `read`, `write` and `dump` over words at which breakpoints are set, and over parts of them.
+
+use crate::chips::PROGRAM;
+use crate::rows::{Row, check_rows};
+use probe_session::Ended;
+use std::test::Fail;
+
+/// What is read by both paths.
+const READ: Row = Row {
+    image: PROGRAM,
+    harts: 1,
+    script: "soft 0x80000004
+soft 0x80000008
+read 8 0x80000000 2
+read 4 0x80000004 2
+read 2 0x80000006 3
+read 1 0x80000003 3
+dump 0x80000003 8
+dump 0x80000000 20
+via bus
+read 8 0x80000000 2
+read 4 0x80000004 2
+read 2 0x80000006 3
+read 1 0x80000003 3
+dump 0x80000003 8
+dump 0x80000000 20
+",
+    printed: "soft 0x0000000080000004 set
+soft 0x0000000080000008 set
+0x0000000080000000 0x0012829300500293
+0x0000000080000008 0x00000000ffdff06f
+0x0000000080000004 0x00128293
+0x0000000080000008 0xffdff06f
+0x0000000080000006 0x0012
+0x0000000080000008 0xf06f
+0x000000008000000a 0xffdf
+0x0000000080000003 0x00
+0x0000000080000004 0x93
+0x0000000080000005 0x82
+0x0000000080000003 00938212006ff0df
+0x0000000080000000 93025000938212006ff0dfff00000000
+0x0000000080000010 00000000
+via bus
+0x0000000080000000 0x0012829300500293
+0x0000000080000008 0x00000000ffdff06f
+0x0000000080000004 0x00128293
+0x0000000080000008 0xffdff06f
+0x0000000080000006 0x0012
+0x0000000080000008 0xf06f
+0x000000008000000a 0xffdf
+0x0000000080000003 0x00
+0x0000000080000004 0x93
+0x0000000080000005 0x82
+0x0000000080000003 00938212006ff0df
+0x0000000080000000 93025000938212006ff0dfff00000000
+0x0000000080000010 00000000
+",
+    ended: Ended::Clean,
+    changed: &[],
+    covered: &[0x8000_0004, 0x8000_0008],
+    accesses: 82,
+};
+
+/// What is written shows, and the ebreaks stay until the end.
+const WRITTEN: Row = Row {
+    image: PROGRAM,
+    harts: 1,
+    script: "soft 0x80000004
+soft 0x80000008
+write 1 0x80000005 0x11
+read 4 0x80000004
+write 2 0x8000000a 0x2233
+read 4 0x80000008
+write 8 0x80000000 0x4455667788990011
+read 4 0x80000000 2
+via bus
+write 4 0x80000008 0xaabbccdd
+read 8 0x80000008
+write 8 0x80000008 0x0102030405060708 2
+read 2 0x80000008 4
+write 1 0x80000004 0xee 4
+dump 0x80000000 12
+",
+    printed: "soft 0x0000000080000004 set
+soft 0x0000000080000008 set
+wrote 1
+0x0000000080000004 0x00121193
+wrote 1
+0x0000000080000008 0x2233f06f
+wrote 1
+0x0000000080000000 0x88990011
+0x0000000080000004 0x44556677
+via bus
+wrote 1
+0x0000000080000008 0x00000000aabbccdd
+wrote 2
+0x0000000080000008 0x0708
+0x000000008000000a 0x0506
+0x000000008000000c 0x0304
+0x000000008000000e 0x0102
+wrote 4
+0x0000000080000000 11009988eeeeeeee08070605
+",
+    ended: Ended::Clean,
+    changed: &[
+        (0x8000_0000, 0x8899_0011),
+        (0x8000_0004, 0xeeee_eeee),
+        (0x8000_0008, 0x0506_0708),
+        (0x8000_000c, 0x0102_0304),
+        (0x8000_0010, 0x0506_0708),
+        (0x8000_0014, 0x0102_0304),
+    ],
+    covered: &[0x8000_0004, 0x8000_0008],
+    accesses: 37,
+};
+
+/// A written instruction is the one that a hart steps over: `addi x5, x5, 16` in the place of `addi x5, x5, 1`.
+const WRITTEN_INSTRUCTION: Row = Row {
+    image: PROGRAM,
+    harts: 1,
+    script: "soft 0x80000004
+resume
+wait
+write 4 0x80000004 0x01028293
+step
+reg x5
+resume
+wait
+resume
+wait
+reg x5
+unsoft 0x80000004
+read 4 0x80000004
+step
+reg x5
+",
+    printed: "soft 0x0000000080000004 set
+resumed
+halted at 0x0000000080000004 by ebreak
+wrote 1
+halted at 0x0000000080000008 by step
+x5 0x0000000000000015
+resumed
+halted at 0x0000000080000004 by ebreak
+resumed
+halted at 0x0000000080000004 by ebreak
+x5 0x0000000000000025
+soft 0x0000000080000004 clear
+0x0000000080000004 0x01028293
+halted at 0x0000000080000008 by step
+x5 0x0000000000000035
+",
+    ended: Ended::Clean,
+    changed: &[(0x8000_0004, 0x0102_8293)],
+    covered: &[],
+    accesses: 9,
+};
+
+#[test]
+fn memory_shows_no_ebreak(rt: HostRuntime) -> Result<(), Fail> {
+    check_rows(&rt, rt.alloc(), &[READ, WRITTEN, WRITTEN_INSTRUCTION])
+}
