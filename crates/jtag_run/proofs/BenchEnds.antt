@@ -2,7 +2,6 @@
 use Rattle.std.proofs.Common.{◌≡◌, ◌∙◌, ◌<◌, ◌≤◌, ℕ, Bool, true, false, List, [], Option, Some, None, IfSome, sym, ap, subst, inl, inr, arith}
 use Rattle.std.proofs.lemmas.Bool.{false≢true}
 use Rattle.std.proofs.lemmas.Option.{none-some}
-use Rattle.abstract_debugger.specs.Debugger.{commands, first_state}
 use Rattle.abstract_debugger.specs.Plan.{Plan}
 use Rattle.chip_core.specs.Feeds.{far_of, is_limit, limit_met}
 use Rattle.debug_model.specs.declared.command.Command.{Command}
@@ -13,6 +12,8 @@ use Rattle.debug_model.specs.Scan.{Coming, ScanCause}
 use Rattle.debug_model.specs.Told.{Far, MetLimit, read_out}
 use Rattle.debug_model.specs.Wire.{EndCause, SendCause}
 use Rattle.jt_base.specs.Faults.{Rises}
+use Rattle.jtag_run.specs.Sequel.{Sequel, UpTo, sequel_plan}
+use Rattle.jtag_run.specs.Sequel.Sequel.{of_script}
 use Rattle.jtag_run.specs.Sessions.{IsBenchEnd, OnBench, OnBenchBy, at_bench}
 use Rattle.probe_session.specs.declared.ended.Ended.{Ended as End}
 use Rattle.probe_session.specs.declared.ended.Ended.TheVariants as ends
@@ -21,7 +22,7 @@ use Rattle.probe_session.specs.Transcribed.{WrittenBy}
 use Rattle.wire_session.specs.Closing.{Closes, sends_quit, unclosed}
 use Rattle.wire_session.specs.Closing.Closes.{behind_fault, quitted, unquitted}
 use Rattle.wire_session.specs.Seen.{SinkSeen, WireSeen}
-use Rattle.wire_session.specs.WireSession.{WireSession, WireSessionBy}
+use Rattle.wire_session.specs.WireSession.{WireSession, WireSessionBy, WireUpTo}
 
 -- ---- a wire whose count of faults stays at 0
 
@@ -91,18 +92,21 @@ possible_end bench unread p was is first last mid e closed told cause w (unquitt
     subst (λ x. IsBenchEnd x (limit_met bench)) (sym same)
     (unclosed_end (limit_met bench) why e (met_at bench unread (limit_unsent (far_of bench unread) mid.faults why done.later done.cause)))
 
-pub on_bench_by : (old bench : Option Live) (unread : List ℕ) (p : Plan) (was is : SinkSeen) (closed : End)
-    → WireSessionBy p (at_bench old [] 0) (at_bench bench unread 0) was is closed
-    → IfSome old (λ first. OnBenchBy first p was is bench (limit_met bench) closed)
-on_bench_by None bench unread p was is closed s = tt
-on_bench_by (Some first) bench unread p was is closed s = record {
+pub on_bench_by : (old bench : Option Live) (unread : List ℕ) (sequel : Sequel) (was is : SinkSeen) (closed : End)
+    → WireSessionBy (sequel_plan sequel) (at_bench old [] 0) (at_bench bench unread 0) was is closed
+    → UpTo sequel (at_bench old [] 0) (at_bench bench unread 0) was is closed
+    → IfSome old (λ first. OnBenchBy first sequel was is bench (limit_met bench) closed)
+on_bench_by None bench unread sequel was is closed s u = tt
+on_bench_by (Some first) bench unread sequel was is closed s u = record {
   unread = unread;
   session = s;
-  possible = possible_end bench unread p was.printed is.printed (read_out first) s.headline.far s.mid s.end closed s.headline.is s.cause
+  possible = possible_end bench unread (sequel_plan sequel) was.printed is.printed (read_out first) s.headline.far s.mid s.end closed s.headline.is s.cause
       s.headline.holds.written s.closes;
+  up_to = u;
 }
 
 pub on_bench : (old bench : Option Live) (unread : List ℕ) (script : List Command) (was is : SinkSeen) (closed : End)
     → WireSession script (at_bench old [] 0) (at_bench bench unread 0) was is closed
+    → WireUpTo script (at_bench old [] 0) (at_bench bench unread 0) was is closed
     → IfSome old (λ first. OnBench first script was is bench (limit_met bench) closed)
-on_bench old bench unread script was is closed s = on_bench_by old bench unread (commands script first_state) was is closed s
+on_bench old bench unread script was is closed s u = on_bench_by old bench unread (of_script script) was is closed s u

@@ -12,7 +12,7 @@ use Rattle.jtag_run.specs.Sessions.{IsLoadedBench, OnBench, at_bench}
 use Rattle.jtag_run.proofs.BenchEnds.{on_bench}
 use Rattle.probe_session.specs.declared.ended.Ended.{Ended as End}
 use Rattle.wire_session.specs.Seen.{SinkSeen, WireSeen}
-use Rattle.wire_session.specs.WireSession.{WireSession}
+use Rattle.wire_session.specs.WireSession.{WireSession, WireUpTo}
 
 -- TCK is 0 behind a load
 pub is_low : (bench : Option Live) → IsLoadedBench bench → tck_of bench ≡ false
@@ -51,20 +51,27 @@ chain_read plan bench told is = subst IsRead (sym (ap chip_told is ∙ chip_firs
 abbrev pub at_chain : Option ChainFar → ℕ → WireSeen
 at_chain told faults = record { far = chip_told told; coming = nothing_coming; faults = faults }
 
+-- what holds of a wire to the chain before and behind a session holds of one to the bench
+as_bench : (P : WireSeen → WireSeen → Type 0) (plan : Plan) (old bench : Option Live) (told : Option ChainFar) (s : Beside) (unread : List ℕ)
+    → told ≡ planned_far plan old → P (at_chain told 0) (at_chain (chain_far bench s unread) 0) → P (at_bench old [] 0) (at_bench bench unread 0)
+as_bench P plan old bench told s unread first went =
+    subst (λ far. P far (at_bench bench unread 0))
+    (λ i. record { far = (ap chip_told first ∙ chip_first plan old) i; coming = nothing_coming; faults = 0 })
+    (subst (λ far. P (at_chain told 0) far) (λ i. record { far = chip_on bench s unread i; coming = nothing_coming; faults = 0 }) went)
+
 -- a session over a wire to the chain is one over a wire to the bench
 pub chain_as_bench : (plan : Plan) (old bench : Option Live) (told : Option ChainFar) (s : Beside) (unread : List ℕ) (script : List Command)
     (was is : SinkSeen) (closed : End) → told ≡ planned_far plan old
     → WireSession script (at_chain told 0) (at_chain (chain_far bench s unread) 0) was is closed
     → WireSession script (at_bench old [] 0) (at_bench bench unread 0) was is closed
 chain_as_bench plan old bench told s unread script was is closed first went =
-    subst (λ far. WireSession script far (at_bench bench unread 0) was is closed)
-    (λ i. record { far = (ap chip_told first ∙ chip_first plan old) i; coming = nothing_coming; faults = 0 })
-    (subst (λ far. WireSession script (at_chain told 0) far was is closed)
-    (λ i. record { far = chip_on bench s unread i; coming = nothing_coming; faults = 0 }) went)
+    as_bench (λ before behind. WireSession script before behind was is closed) plan old bench told s unread first went
 
 pub on_chain : (plan : Plan) (old bench : Option Live) (told : Option ChainFar) (s : Beside) (unread : List ℕ) (script : List Command) (was is : SinkSeen)
     (closed : End) → told ≡ planned_far plan old
     → WireSession script (at_chain told 0) (at_chain (chain_far bench s unread) 0) was is closed
+    → WireUpTo script (at_chain told 0) (at_chain (chain_far bench s unread) 0) was is closed
     → IfSome old (λ first. OnBench first script was is bench (limit_met bench) closed)
-on_chain plan old bench told s unread script was is closed first went =
+on_chain plan old bench told s unread script was is closed first went up_to =
     on_bench old bench unread script was is closed (chain_as_bench plan old bench told s unread script was is closed first went)
+    (as_bench (λ before behind. WireUpTo script before behind was is closed) plan old bench told s unread first up_to)

@@ -3,7 +3,6 @@ use Rattle.std.proofs.Common.{◌≡◌, ◌∙◌, ℕ, List, [], Option, Some,
 use Rattle.chip_core.specs.Feeds.{limit_met}
 use Rattle.debug_model.specs.declared.command.Command.{Command}
 use Rattle.debug_model.specs.Chip.{Live}
-use Rattle.elf_session.specs.Loading.{elf_plan}
 use Rattle.jt_base.specs.Files.{NamedFile}
 use Rattle.probe_session.specs.declared.ended.Ended.{Ended as End}
 use Rattle.jtag_run.specs.Ends.{ElfEnd}
@@ -17,6 +16,7 @@ use Rattle.jtag_run.specs.Ran.RanProbeElf.{ran as probe_done, refused as probe_u
 use Rattle.jtag_run.specs.Refusal.{asked_elf}
 use Rattle.jtag_run.specs.Causes.RefusalCause.{of_elf, of_probe_elf}
 use Rattle.jtag_run.specs.Ending.{ClosedBy}
+use Rattle.jtag_run.specs.Sequel.Sequel.{of_elf}
 use Rattle.jtag_run.specs.Sessions.{IsLoadedBench, OnBenchBy}
 use Rattle.jtag_run.specs.declared.status.Status.{Status}
 use Rattle.command_line.specs.WrittenJob.{job_of}
@@ -27,7 +27,7 @@ pub prepared_elf_fresh : (job : BothElf) (held : Option (List NamedFile)) (comma
 prepared_elf_fresh job held commands file bench p = record { first = first_chip (halted job.options) []; is = p.is; as_loaded = p.as_loaded }
 
 pub elf_ended : (old bench : Option Live) (file : List ℕ) (script : List Command) (was mid is : SinkSeen) (closed : End) (status : Status)
-    → IfSome old (λ first. OnBenchBy first (elf_plan file script) was mid bench (limit_met bench) closed) → ClosedBy closed (limit_met bench) mid is status
+    → IfSome old (λ first. OnBenchBy first (of_elf file script) was mid bench (limit_met bench) closed) → ClosedBy closed (limit_met bench) mid is status
     → IfSome old (λ first. ElfEnd first file script was is bench status)
 elf_ended None bench file script was mid is closed status ran told = tt
 elf_ended (Some first) bench file script was mid is closed status ran told = record { closed = closed; behind = mid; ran = ran; told = told }

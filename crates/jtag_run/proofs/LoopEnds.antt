@@ -10,7 +10,7 @@ use Rattle.jtag_run.specs.Outside.{NetSeen}
 use Rattle.jtag_run.specs.Sessions.{OnLoop, at_bench}
 use Rattle.probe_session.specs.declared.ended.Ended.{Ended as End}
 use Rattle.wire_session.specs.Seen.{SinkSeen}
-use Rattle.wire_session.specs.WireSession.{WireSession}
+use Rattle.wire_session.specs.WireSession.{WireSession, WireUpTo}
 
 -- a wire keeps what its net had counted when it was made
 began_faults : (a b : Began) → Some a ≡ Some b → a.faults ≡ b.faults
@@ -31,9 +31,11 @@ pub on_loop : (old bench : Option Live) (unread : List ℕ) (differences : ℕ) 
     (closed : End)
     → WireSession script (at_bench old [] (looped 0 net_was.faults net_was.ends)) (at_bench bench unread (looped differences net_is.faults net_is.ends)) was is
     closed
+    → WireUpTo script (at_bench old [] (looped 0 net_was.faults net_was.ends)) (at_bench bench unread (looped differences net_is.faults net_is.ends)) was is
+    closed
     → net_is.state.ties ≡ net_was.state.ties
     → (net_was.state.ties.tells_pipe ≡ true → (Rises net_was.faults net_is.faults → ⊥) → (Rises net_was.ends net_is.ends → ⊥) → differences ≡ 0)
     → IfSome old (λ first. OnLoop first script net_was net_is was is bench closed)
-on_loop None bench unread differences script net_was net_is was is closed session ties alike = tt
-on_loop (Some first) bench unread differences script net_was net_is was is closed session ties alike =
-    record { unread = unread; differences = differences; session = session; ties = ties; alike = alike }
+on_loop None bench unread differences script net_was net_is was is closed session up_to ties alike = tt
+on_loop (Some first) bench unread differences script net_was net_is was is closed session up_to ties alike =
+    record { unread = unread; differences = differences; session = session; up_to = up_to; ties = ties; alike = alike }

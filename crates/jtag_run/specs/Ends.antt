@@ -1,8 +1,6 @@
 -- What each job with a session does once it was accepted: how the session went, and what the program says of its end.
 -- The program is this project's own (docs/FORMATS.md, "Statuses").
 use Rattle.std.specs.Prelude.{◌≡◌, ◌≤◌, ℕ, List, [], Bool, false, length, count_by, Option, None, Some, IsSome}
-use Rattle.abstract_debugger.specs.Debugger.{commands, first_state}
-use Rattle.abstract_debugger.specs.Plan.{Plan}
 use Rattle.chain_scan.specs.ChainPlan.{Plan as ChainPlan}
 use Rattle.chip_core.specs.Feeds.{limit_met}
 use Rattle.command_line.specs.declared.job.Way.{Way}
@@ -19,6 +17,8 @@ use Rattle.jtag_run.specs.Ending.{ClosedBy}
 use Rattle.jtag_run.specs.Opening.{ConnectedAt, Joined, OpenFailed, refusal_of}
 use Rattle.jtag_run.specs.Outside.{NetSeen}
 use Rattle.jtag_run.specs.Refusal.{Refused}
+use Rattle.jtag_run.specs.Sequel.{Sequel}
+use Rattle.jtag_run.specs.Sequel.Sequel.{of_elf, of_script}
 use Rattle.jtag_run.specs.Sessions.{Carried, OnBenchBy, OnLoop, OnNetAs, OnNetBy}
 use Rattle.jtag_run.specs.Sessions.Carried.{chained, over_net, straight}
 use Rattle.jtag_run.specs.Summary.{summary_of}
@@ -26,7 +26,6 @@ use Rattle.jtag_run.specs.declared.refusal.Refusal.TheVariants.{Open}
 use Rattle.jtag_run.specs.declared.status.Status.{Status}
 use Rattle.jtag_run.specs.declared.status.Status.TheVariants as status_as
 use Rattle.line_counts.specs.Counts.{errors_in, lines_in}
-use Rattle.elf_session.specs.Loading.{elf_plan}
 use Rattle.probe_session.specs.declared.ended.Ended.{Ended as End}
 use Rattle.probe_session.specs.declared.ended.Ended.TheVariants as ends
 use Rattle.probe_session.specs.declared.fault.LostCause.TheVariants as lost
@@ -35,19 +34,19 @@ use Rattle.wire_session.specs.Seen.{SinkSeen}
 
 -- ---- a script on a chip on a bench
 
--- by the plan behind the opening
-pub record BenchEndBy (first : Live) (p : Plan) (old new : SinkSeen) (bench : Option Live) (status : Status) : Type 0 where
+-- by what follows the opening
+pub record BenchEndBy (first : Live) (sequel : Sequel) (old new : SinkSeen) (bench : Option Live) (status : Status) : Type 0 where
   pub closed : End
   pub behind : SinkSeen  -- the sink behind the session, before a last line
-  pub ran : OnBenchBy first p old behind bench (limit_met bench) closed
+  pub ran : OnBenchBy first sequel old behind bench (limit_met bench) closed
   pub told : ClosedBy closed (limit_met bench) behind new status
 
 abbrev pub BenchEnd : Live → List Command → (old new : SinkSeen) → Option Live → Status → Type 0
-BenchEnd first script old new bench status = BenchEndBy first (commands script first_state) old new bench status
+BenchEnd first script old new bench status = BenchEndBy first (of_script script) old new bench status
 
 -- of a session that loads this ELF file first
 abbrev pub ElfEnd : Live → (file : List ℕ) → List Command → (old new : SinkSeen) → Option Live → Status → Type 0
-ElfEnd first file script old new bench status = BenchEndBy first (elf_plan file script) old new bench status
+ElfEnd first file script old new bench status = BenchEndBy first (of_elf file script) old new bench status
 
 -- the same over a connection of the machine to itself, or that could not be opened, and the chip stays as it was loaded
 pub data LoopEnd (first : Live) (script : List Command) (net_was net_is : NetSeen) (old new : SinkSeen) (bench : Option Live) (status : Status) : Type 0 where
@@ -146,5 +145,5 @@ pub data ProbeElfEnd (at file : List ℕ) (script : List Command) (net_was net_i
   unopened : (fault : NetFault) → OpenFailed calls.Connect (Some at) fault net_was net_is → Refused (refusal_of fault) old new status
       → ProbeElfEnd at file script net_was net_is old new status
   opened : (mid : NetSeen) (closed : End) (behind : SinkSeen) → ConnectedAt at net_was mid
-      → OnNetBy (elf_plan file script) mid net_is old behind closed → ClosedBy closed false behind new status
+      → OnNetBy (of_elf file script) mid net_is old behind closed → ClosedBy closed false behind new status
       → ProbeElfEnd at file script net_was net_is old new status

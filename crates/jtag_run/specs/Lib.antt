@@ -11,6 +11,7 @@ pub mod Recording
 pub mod Refusal
 pub mod ScriptFault
 pub mod ScriptText
+pub mod Sequel
 pub mod ServedChip
 pub mod Sessions
 pub mod SoftEnds

@@ -2,8 +2,6 @@
 -- The program is this project's own.
 use Rattle.std.specs.Prelude.{◌≡◌, ℕ, List, [], Bool, true, Option, None, Some, IfSome}
 use Rattle.jt_base.specs.Faults.{Rises}
-use Rattle.abstract_debugger.specs.Debugger.{commands, first_state}
-use Rattle.abstract_debugger.specs.Plan.{Plan}
 use Rattle.bench_links.specs.Looped.{looped}
 use Rattle.chain_scan.specs.ChainPlan.{Plan as ChainPlan}
 use Rattle.chip_core.specs.Feeds.{far_of, nothing_coming}
@@ -16,10 +14,12 @@ use Rattle.debug_model.specs.Net.{coming_of}
 use Rattle.jtag_net.specs.Wired.{summed}
 use Rattle.jtag_run.specs.Opening.{Joined}
 use Rattle.jtag_run.specs.Outside.{NetSeen}
+use Rattle.jtag_run.specs.Sequel.{Sequel, UpTo, sequel_plan}
+use Rattle.jtag_run.specs.Sequel.Sequel.{of_script}
 use Rattle.probe_session.specs.declared.ended.Ended.{Ended as End}
 use Rattle.probe_session.specs.declared.ended.Ended.TheVariants as ends
 use Rattle.wire_session.specs.Seen.{SinkSeen, WireSeen}
-use Rattle.wire_session.specs.WireSession.{WireSession, WireSessionBy}
+use Rattle.wire_session.specs.WireSession.{WireSession, WireSessionBy, WireUpTo}
 
 -- a bench whose chip is as it was loaded
 pub record IsLoadedBench (bench : Option Live) : Type 0 where
@@ -42,15 +42,17 @@ IsBenchEnd (ends.Wire why) limit = limit ≡ true
 IsBenchEnd (ends.Lost why) limit = Unit {0}
 IsBenchEnd ends.Sink limit = Unit {0}
 
--- by the chip that the bench had first, the plan behind the opening, the sink before and behind the session, and the bench behind the end of the stream
-pub record OnBenchBy (first : Live) (p : Plan) (was is : SinkSeen) (bench : Option Live) (limit : Bool) (closed : End) : Type 0 where
+-- by the chip that the bench had first, what follows the opening, the sink before and behind the session, and the bench behind the end of the stream
+pub record OnBenchBy (first : Live) (sequel : Sequel) (was is : SinkSeen) (bench : Option Live) (limit : Bool) (closed : End) : Type 0 where
   pub unread : List ℕ
-  pub session : WireSessionBy p (at_bench (Some first) [] 0) (at_bench bench unread 0) was is closed
+  pub session : WireSessionBy (sequel_plan sequel) (at_bench (Some first) [] 0) (at_bench bench unread 0) was is closed
   pub possible : IsBenchEnd closed limit
+  -- the command that was under way where it broke off
+  pub up_to : UpTo sequel (at_bench (Some first) [] 0) (at_bench bench unread 0) was is closed
 
 -- of a session that runs a script
 abbrev pub OnBench : Live → List Command → (was is : SinkSeen) → Option Live → (limit : Bool) → End → Type 0
-OnBench first script was is bench limit closed = OnBenchBy first (commands script first_state) was is bench limit closed
+OnBench first script was is bench limit closed = OnBenchBy first (of_script script) was is bench limit closed
 
 -- the same over both ends of a net that was joined: its faults, its ends, and bytes that came out otherwise than they were put are faults of the wire.
 -- Over a net that tells a pipe none come out so before it has counted a fault or an end
@@ -60,6 +62,8 @@ pub record OnLoop (first : Live) (script : List Command) (net_was net_is : NetSe
   pub session : WireSession script (at_bench (Some first) [] (looped 0 net_was.faults net_was.ends))
       (at_bench bench unread (looped differences net_is.faults net_is.ends)) was is closed
   pub ties : net_is.state.ties ≡ net_was.state.ties
+  pub up_to : WireUpTo script (at_bench (Some first) [] (looped 0 net_was.faults net_was.ends))
+      (at_bench bench unread (looped differences net_is.faults net_is.ends)) was is closed
   pub alike : net_was.state.ties.tells_pipe ≡ true → (Rises net_was.faults net_is.faults → ⊥) → (Rises net_was.ends net_is.ends → ⊥) → differences ≡ 0
 
 -- straight to the chip, or to a chain that it is in, and the net stays as it is; or over the net, which was joined for it.
@@ -80,14 +84,15 @@ abbrev pub wired : ℕ → NetSeen → WireSeen
 wired bad net = record { far = net.state.chip; coming = coming_of net.state; faults = summed bad net.faults net.ends }
 
 -- over a net that tells its chip no byte came that is no answer
-pub record OnNetBy (p : Plan) (net_was net_is : NetSeen) (was is : SinkSeen) (closed : End) : Type 0 where
+pub record OnNetBy (sequel : Sequel) (net_was net_is : NetSeen) (was is : SinkSeen) (closed : End) : Type 0 where
   pub bad_answers : ℕ
-  pub session : WireSessionBy p (wired 0 net_was) (wired bad_answers net_is) was is closed
+  pub session : WireSessionBy (sequel_plan sequel) (wired 0 net_was) (wired bad_answers net_is) was is closed
+  pub up_to : UpTo sequel (wired 0 net_was) (wired bad_answers net_is) was is closed
   pub ties : net_is.state.ties ≡ net_was.state.ties
   pub judged : IfSome net_is.state.chip (λ _. bad_answers ≡ 0)
 
 abbrev pub OnNet : List Command → (net_was net_is : NetSeen) → (was is : SinkSeen) → End → Type 0
-OnNet script net_was net_is was is closed = OnNetBy (commands script first_state) net_was net_is was is closed
+OnNet script net_was net_is was is closed = OnNetBy (of_script script) net_was net_is was is closed
 
 -- the same of a net with a chain at its far side, of which nothing is told
 abbrev pub chained_wire : ℕ → NetSeen → WireSeen
@@ -96,6 +101,7 @@ chained_wire bad net = record { far = None; coming = coming_of net.state; faults
 pub record OnChainNet (script : List Command) (net_was net_is : NetSeen) (was is : SinkSeen) (closed : End) : Type 0 where
   pub bad_answers : ℕ
   pub session : WireSession script (chained_wire 0 net_was) (chained_wire bad_answers net_is) was is closed
+  pub up_to : WireUpTo script (chained_wire 0 net_was) (chained_wire bad_answers net_is) was is closed
   pub ties : net_is.state.ties ≡ net_was.state.ties
 
 -- by what is at the far side: a chip alone, or a chain with these devices beside it

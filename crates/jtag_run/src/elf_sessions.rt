@@ -5,7 +5,7 @@ ghost use Rattle.chip_core.specs.Feeds.{limit_met};
 ghost use Rattle.debug_model.specs.Told.{IsAsLoaded, IsRead};
 ghost use Rattle.debug_model.specs.Wire.{piece_most};
 ghost use Rattle.elf_load.specs.Elf.{ReadsAs};
-ghost use Rattle.elf_session.specs.Loading.{elf_plan};
+ghost use Rattle.jtag_run.specs.Sequel.Sequel.{of_elf};
 ghost use Rattle.jtag_run.specs.Sessions.{IsLoadedBench, OnBenchBy, OnNetBy};
 ghost use Rattle.probe_session.specs.Causes.{SinkCaused};
 ghost use Rattle.wire_session.specs.Closing.{IsOfRegister};
@@ -30,7 +30,7 @@ pub fn run_elf_on_bench<Q: Schedule, K: Sink>(
     requires piece { (1 ≤ piece) × (piece ≤ piece_most) }
     requires fresh { IsLoadedBench bench.old }
     requires read { ReadsAs file.now elf.now }
-    ensures ran { IfSome bench.old (λ first. OnBenchBy first (elf_plan file.now script.now)
+    ensures ran { IfSome bench.old (λ first. OnBenchBy first (of_elf file.now script.now)
         (record { printed = K.contents out.old; faults = K.fault_count out.old })
         (record { printed = K.contents out.new; faults = K.fault_count out.new })
         bench.new (limit_met bench.new) result) }
@@ -55,7 +55,7 @@ pub fn run_elf_on_net<N: Net, K: Sink>(
     requires loaded { IsAsLoaded (N.state net.old).chip }
     requires answered { IsRead (N.state net.old).chip }
     requires read { ReadsAs file.now elf.now }
-    ensures ran { OnNetBy (elf_plan file.now script.now)
+    ensures ran { OnNetBy (of_elf file.now script.now)
         (record { state = N.state net.old; peer = N.peer net.old; faults = N.fault_count net.old; ends = N.end_count net.old })
         (record { state = N.state net.new; peer = N.peer net.new; faults = N.fault_count net.new; ends = N.end_count net.new })
         (record { printed = K.contents out.old; faults = K.fault_count out.old })
