@@ -33,7 +33,8 @@ use Rattle.probe_session.specs.Goes.Goes.{start, step}
 use Rattle.probe_session.specs.Links.{Attached}
 use Rattle.probe_session.specs.Places.{at_say, still}
 use Rattle.probe_session.specs.Steps.Step.{rests, stores_element, stores_element_none}
-use Rattle.probe_session.proofs.CallLemmas.{bus_stores_cut, leaves_as}
+use Rattle.probe_session.proofs.CallLemmas.{leaves_as}
+use Rattle.probe_session.proofs.ValueCalls.{bus_block_left, bus_stores_cut}
 use Rattle.elf_session.specs.Loaded.{at_elements}
 use Rattle.elf_session.specs.Loading.{loading_hart, not_loaded, storing_each}
 
@@ -127,10 +128,10 @@ element_fell : {way : Way} {h : ℕ} (size : Size) (address value old_count new_
     → old_count ≤ new_count → BusStoreFailed size address value old_count new_count old new why
     → AccessLeft (BusStoreRefused size address) address old.far new.far why
     → IfCut (Leaves (BusLeftOff (StoreLeaves size address value)) old.far new.far) why → Became why f
-    → BlockStoreFell Bus way h size address value 1 old_count new_count old new f
+    → BlockStoreFell Bus way h size address (value ∷ []) old_count new_count old new f
 element_fell size address value old_count new_count old new why f ready later failed left cut became =
     BlockStoreFell.by_bus why ready later (store_causes size address value old_count new_count old new why later failed)
-    (block_left size address value old.far new.far why f became left)
+    (bus_block_left size address value 1 old.far new.far why (block_left size address value old.far new.far why f became left))
     (bus_stores_cut size address value 1 old.far new.far why (block_cut size address value old.far new.far why cut)) became
 
 pub stores_fell : (es : List Element) (old_count new_count : ℕ) (old new : Tells) (why : AccessFault) (f : Failure)

@@ -262,10 +262,11 @@ step_leads from to old new said (Step.loads_block {way = way} {h} {address} {siz
     block_loaded_at m h way size address o p q values s lines old new loads l a
 step_leads from to old new said (Step.loads_block_none {way = way} {h} {address} {size} {values} {said = s} {from = p} {faulted} read loads l) m o lines a =
     block_loaded_none_at m h way size address o p faulted read values s lines old new loads l a
-step_leads from to old new said (Step.stores_block {way = way} {h} {address} {value} {count} {size} {from = p} {to = q} stores l) m o lines a =
-    none_said m o to lines new.far (block_stored_at m h way size address value count o p q lines old new stores l a)
-step_leads from to old new said (Step.stores_block_none {way = way} {h} {address} {value} {done} {size} {from = p} {faulted} stored stores l) m o lines a =
-    none_said m o to lines new.far (block_stored_none_at m h way size address value done o p faulted stored lines old new stores l a)
+step_leads from to old new said (Step.stores_block {way = way} {h} {address} {size} {values} {from = p} {to = q} stores l) m o lines a =
+    none_said m o to lines new.far (block_stored_at m h way size address values o p q lines old new stores l a)
+step_leads from to old new said (Step.stores_block_none {way = way} {h} {address} {done} {size} {values} {from = p} {faulted} stored below stores l) m o
+    lines a =
+    none_said m o to lines new.far (block_stored_none_at m h way size address values done o p faulted stored lines old new below stores l a)
 step_leads from to old new said (Step.stores_element {way} {h} {address} {value} {size} faulted stored e) m o lines a =
     none_said m o to lines new.far (element_stored_at m h way size address value o faulted stored lines old new e a)
 step_leads from to old new said (Step.stores_element_none {way} {h} {address} {value} {size} faulted stored e) m o lines a =
