@@ -1,5 +1,5 @@
 -- Elements of a block that were accessed, one behind another, over a told chip: where the plan stands behind them, and that it changes nothing there.
-use Rattle.std.proofs.Common.{◌≡◌, ◌∙◌, ◌≤◌, ◌<◌, ◌+◌, ◌++◌, ℕ, zero, suc, List, [], ◌∷◌, length, slice_get, take, sym, ap, subst, arith}
+use Rattle.std.proofs.Common.{◌≡◌, ◌∙◌, ◌≤◌, ◌<◌, ◌+◌, ◌++◌, ℕ, zero, suc, List, [], ◌∷◌, length, slice_get, take as first_of, sym, ap, subst, arith}
 use Rattle.rv_model.specs.declared.size.Size.{Size}
 use Rattle.rv_model.specs.Board.{Board, Machine}
 use Rattle.rv_model.specs.Memory.{after_store, loaded, store_answer}
@@ -146,11 +146,11 @@ first_store : {path : Path} {size : Size} {address : ℕ} {values : List ℕ} {p
 first_store Stores.nothing quiet = quiet
 first_store (Stores.further faulted next rest) quiet = tt
 
-pub stores_quiet : (path : Path) (size : Size) (m : Machine) (h : ℕ) (way : Way) (o : Origin) {address : ℕ} {p to : Plan} (values : List ℕ) (done : ℕ)
-    (lines : List Line) (s t : Site) (stores : Stores path size address values p to) → QuietStores stores → EachStored size address s (take done values) t
+pub stores_quiet : (path : Path) (size : Size) (m : Machine) (h : ℕ) (way : Way) (o : Origin) {address : ℕ} (values : List ℕ) (done : ℕ) {p to : Plan}
+    (lines : List Line) (s t : Site) (stores : Stores path size address values p to) → QuietStores stores → EachStored size address s (first_of done values) t
     → done ≤ length values → Deals m h way o p lines (target_of s) → QuietAt m h way o (target_of t)
-stores_quiet path size m h way o {p = p} values zero lines s t stores quiet EachStored.nothing few d =
-    record { plan = p; lines = lines; deals = d; quiet = first_store stores quiet }
+stores_quiet path size m h way o values zero lines s t stores quiet EachStored.nothing few d =
+    record { plan = _; lines = lines; deals = d; quiet = first_store stores quiet }
 stores_quiet path size m h way o [] (suc done) lines s t stores quiet each few d = absurd (omega (arith, few))
 stores_quiet path size m h way o {address} (value ∷ values) (suc done) lines s t (Stores.further faulted next rest) quiet
     (EachStored.further k one each) few d =
@@ -158,7 +158,7 @@ stores_quiet path size m h way o {address} (value ∷ values) (suc done) lines s
     (store_once path size address value m h way o faulted next lines s k one d)
 
 pub stores_at : (path : Path) (size : Size) (m : Machine) (h : ℕ) (way : Way) (o : Origin) {address : ℕ} {p to : Plan} (values : List ℕ) (done : ℕ)
-    (lines : List Line) (s t : Site) (stores : Stores path size address values p to) → QuietStores stores → EachStored size address s (take done values) t
+    (lines : List Line) (s t : Site) (stores : Stores path size address values p to) → QuietStores stores → EachStored size address s (first_of done values) t
     → done < length values → Deals m h way o p lines (target_of s)
     → StoreAt m h way o size (value_at values done) (element_at size address done) (target_of t)
 stores_at path size m h way o [] done lines s t stores quiet each few d = absurd (omega (arith, few))

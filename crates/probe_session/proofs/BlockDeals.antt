@@ -1,6 +1,6 @@
 -- Blocks of memory over a told chip, as steps of the abstract debugger's plan: an access for each element, one behind another.
 use Rattle.std.proofs.Common.{◌≡◌, ◌∙◌, ◌≤◌, ◌<◌, ◌+◌, ◌++◌, ℕ, zero, suc, List, [], ◌∷◌, length, Ok, sym, subst, append_assoc}
-use Rattle.std.proofs.Common.{append-nil, arith, replicate, take}
+use Rattle.std.proofs.Common.{append-nil, arith, replicate, take as first_of}
 use Rattle.std.proofs.Math.Seq.{take-length}
 use Rattle.std.proofs.lemmas.List.{get_or-replicate, length-replicate, take-replicate}
 use Rattle.rv_model.specs.declared.size.Size.{Size}
@@ -75,8 +75,8 @@ each_bus_loaded size address s t values (BusLoadedEach.further vs value m u each
     (record { before = one.before; behind = one.behind; value_is = one.value_is; access = record { board = one.access.board; journal = one.access.journal } })
 
 -- one more of these values
-stored_more : (size : Size) (address : ℕ) (values : List ℕ) (n : ℕ) {s m t : Site} → n < length values → EachStored size address s (take n values) m
-    → StoredOnce size (element_at size address n) (value_at values n) m t → EachStored size address s (take (suc n) values) t
+stored_more : (size : Size) (address : ℕ) (values : List ℕ) (n : ℕ) {s m t : Site} → n < length values → EachStored size address s (first_of n values) m
+    → StoredOnce size (element_at size address n) (value_at values n) m t → EachStored size address s (first_of (suc n) values) t
 stored_more size address [] n below each one = absurd (omega (arith, below))
 stored_more size address (v ∷ values) zero {m = m} {t = t} below EachStored.nothing one =
     EachStored.further t (subst (λ a. StoredOnce size a v m t) (first_is size address) one) EachStored.nothing
@@ -89,10 +89,10 @@ next_is n = omega arith
 
 -- by the bus the first so many
 pub each_bus_stored : (size : Size) (address : ℕ) (values : List ℕ) (s t : Site) (n : ℕ) → n ≤ length values → BusStoredValues size address values s n t
-    → EachStored size address s (take n values) t
+    → EachStored size address s (first_of n values) t
 each_bus_stored size address values s t n few BusStoredValues.nothing = EachStored.nothing
 each_bus_stored size address values s t n few (BusStoredValues.further k m u each one) =
-    subst (λ x. EachStored size address s (take x values) u) (next_is k)
+    subst (λ x. EachStored size address s (first_of x values) u) (next_is k)
     (stored_more size address values k (omega (arith, few)) (each_bus_stored size address values s m k (omega (arith, few)) each)
     (record { before = one.before; behind = one.behind; taken = one.taken; access = record { board = one.access.board; journal = one.access.journal } }))
 
@@ -101,10 +101,10 @@ copy_at count value n below = sym (get_or-replicate count n value 0 below)
 
 -- and by the hart, where they are one value
 each_stored : (size : Size) (address value count : ℕ) (s t : Site) (n : ℕ) → n ≤ count → StoredEach size address value s n t
-    → EachStored size address s (take n (replicate count value)) t
+    → EachStored size address s (first_of n (replicate count value)) t
 each_stored size address value count s t n few StoredEach.nothing = EachStored.nothing
 each_stored size address value count s t n few (StoredEach.further k m u each one) =
-    subst (λ x. EachStored size address s (take x (replicate count value)) u) (next_is k)
+    subst (λ x. EachStored size address s (first_of x (replicate count value)) u) (next_is k)
     (stored_more size address (replicate count value) k
     (subst (λ l. k < l) (sym (length-replicate {A = ℕ} count value)) (omega (arith, few)))
     (each_stored size address value count s m k (omega (arith, few)) each)
@@ -118,9 +118,9 @@ all_bus_stored size address values s t each =
     subst (λ vs. EachStored size address s vs t) (take-length values) (each_bus_stored size address values s t (length values) (omega arith) each)
 
 pub copies_stored : (size : Size) (address value count : ℕ) (values : List ℕ) (s t : Site) (n : ℕ) → values ≡ replicate count value → n ≤ count
-    → StoredEach size address value s n t → EachStored size address s (take n values) t
+    → StoredEach size address value s n t → EachStored size address s (first_of n values) t
 copies_stored size address value count values s t n is few each =
-    subst (λ vs. EachStored size address s (take n vs) t) (sym is) (each_stored size address value count s t n few each)
+    subst (λ vs. EachStored size address s (first_of n vs) t) (sym is) (each_stored size address value count s t n few each)
 
 pub all_copies_stored : (size : Size) (address value count : ℕ) (values : List ℕ) (s t : Site) → values ≡ replicate count value
     → StoredEach size address value s count t → EachStored size address s values t
@@ -236,10 +236,10 @@ loads_to_access path size m h way o {address} (suc count) (value ∷ values) lin
     (loads_to_access path size m h way o {address = address + count_of size} count values (lines ++ said value) k t (may value) each (omega (arith, few))
     (says_deals m h way o lines (target_of k) (says value) (load_once path size address value m h way o faulted read lines s k one d)))
 
-pub stores_partly : (path : Path) (size : Size) (m : Machine) (h : ℕ) (way : Way) (o : Origin) {address : ℕ} {p q : Plan} (values : List ℕ) (done : ℕ)
-    (lines : List Line) (s t : Site) → Stores path size address values p q → EachStored size address s (take done values) t → done ≤ length values
+pub stores_partly : (path : Path) (size : Size) (m : Machine) (h : ℕ) (way : Way) (o : Origin) {address : ℕ} (values : List ℕ) (done : ℕ) {p q : Plan}
+    (lines : List Line) (s t : Site) → Stores path size address values p q → EachStored size address s (first_of done values) t → done ≤ length values
     → Deals m h way o p lines (target_of s) → Partway m h way o lines (target_of t)
-stores_partly path size m h way o {p = p} values zero lines s t stores EachStored.nothing few d = partly_here m h way o p lines (target_of t) d
+stores_partly path size m h way o values zero lines s t stores EachStored.nothing few d = partly_here m h way o _ lines (target_of t) d
 stores_partly path size m h way o [] (suc done) lines s t stores each few d = absurd (omega (arith, few))
 stores_partly path size m h way o {address} (value ∷ values) (suc done) lines s t (Stores.further faulted next rest)
     (EachStored.further k one each) few d =
@@ -247,7 +247,7 @@ stores_partly path size m h way o {address} (value ∷ values) (suc done) lines 
     (store_once path size address value m h way o faulted next lines s k one d)
 
 pub stores_to_access : (path : Path) (size : Size) (m : Machine) (h : ℕ) (way : Way) (o : Origin) {address : ℕ} {p q : Plan} (values : List ℕ)
-    (done : ℕ) (lines : List Line) (s t : Site) → Stores path size address values p q → EachStored size address s (take done values) t
+    (done : ℕ) (lines : List Line) (s t : Site) → Stores path size address values p q → EachStored size address s (first_of done values) t
     → done < length values → Deals m h way o p lines (target_of s) → AtAccess m h way o lines (target_of t)
 stores_to_access path size m h way o [] done lines s t stores each few d = absurd (omega (arith, few))
 stores_to_access path size m h way o (value ∷ values) zero lines s t (Stores.further faulted next rest) EachStored.nothing few d =
