@@ -12,11 +12,11 @@ use Rattle.probe_access.specs.declared.fault.AccessFault.TheVariants as fault
 use Rattle.probe_access.specs.Accesses.{IfMemory}
 use Rattle.probe_access.specs.BlockCuts.{BlockLoadCut, BlockStoreCut}
 use Rattle.probe_access.specs.BlockRuns.{Fetched}
-use Rattle.probe_access.specs.Blocks.{BlockLoadLeft, BlockLoadedAt, BlockStoreLeft, element_at}
+use Rattle.probe_access.specs.Blocks.{BlockLoadLeft, BlockLoadedAt, BlockStoreLeft}
 use Rattle.probe_access.specs.BusBlockRuns.{BusLoads, BusLoadsRefused}
 use Rattle.probe_access.specs.BusBlocks.{BusBlockLoadCut, BusBlockLoadLeft, BusBlockLoadedAt}
 use Rattle.probe_access.specs.BusRuns.{cut_to}
-use Rattle.probe_access.specs.Cuts.{AccessLeftOff, BusLeftOff, IfCut, Leaves, LoadLeaves, StoreLeaves}
+use Rattle.probe_access.specs.Cuts.{AccessLeftOff, BusLeftOff, IfCut, Leaves, LoadLeaves}
 use Rattle.probe_access.specs.ReadRuns.{is_wide}
 use Rattle.probe_access.specs.ElementRuns.{LoadRuns, LoadRunsFailed, StoreRunsFailed}
 use Rattle.probe_access.proofs.CutSites.{if_cut}

@@ -64,7 +64,8 @@ of_load size address count old_count new_count old new f (BlockLoadFell.by_bus w
 
 pub of_store : {path : Path} {way : Way} {h : ℕ} (size : Size) (address : ℕ) (values : List ℕ) (old_count new_count : ℕ) (old new : Tells) (f : Failure)
     → BlockStoreFell path way h size address values old_count new_count old new f → IsNotSink f
-of_store size address values old_count new_count old new f (BlockStoreFell.by_hart why value count are known at later heard causes told cut is) = of_access why f is
+of_store size address values old_count new_count old new f (BlockStoreFell.by_hart why value count are known at later heard causes told cut is) =
+    of_access why f is
 of_store size address values old_count new_count old new f (BlockStoreFell.by_bus why at later causes told cut is) = of_access why f is
 
 pub of_fault : (p : Place) (old_count new_count : ℕ) (old new : Tells) (f : Failure) → Fault p old_count new_count old new f → IsNotSink f

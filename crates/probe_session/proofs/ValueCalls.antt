@@ -1,5 +1,5 @@
 -- Calls that store values by the system bus, as a session tells of them: one value so many times is a list of copies.
-use Rattle.std.proofs.Common.{◌≡◌, ◌≤◌, ◌<◌, ◌+◌, ℕ, List, length, replicate, Option, Some, None, subst, arith, sym}
+use Rattle.std.proofs.Common.{◌≡◌, ◌≤◌, ◌<◌, ℕ, List, length, replicate, Option, Some, None, subst, arith, sym}
 use Rattle.std.proofs.lemmas.List.{get_or-replicate, length-replicate}
 use Rattle.rv_model.specs.declared.size.Size.{Size}
 use Rattle.debug_model.specs.declared.command.Path.TheVariants.{Bus}
