@@ -4,23 +4,21 @@ use Rattle.std.proofs.lemmas.List.{length-replicate}
 use Rattle.rv_model.specs.declared.size.Size.{Size}
 use Rattle.rv_model.specs.Board.{Machine}
 use Rattle.debug_model.specs.declared.command.Path.{Path}
-use Rattle.debug_model.specs.declared.command.Path.TheVariants.{Bus}
 use Rattle.debug_model.specs.Told.{site_of}
 use Rattle.abstract_debugger.specs.Lines.{Line}
 use Rattle.abstract_debugger.specs.Plan.{Plan}
 use Rattle.abstract_debugger.specs.Stands.{At, Origin}
 use Rattle.abstract_debugger.specs.Ways.{Way}
 use Rattle.abstract_debugger.proofs.DealsLemmas.{deals_unpathed}
-use Rattle.probe_access.specs.Accesses.{BusStoreRefused, BusStoredAt}
 use Rattle.probe_access.specs.Blocks.{BlockLoadRefused, BlockLoadedAt, BlockStoreRefused, BlockStoredAt, element_at, value_at}
 use Rattle.probe_access.specs.BusBlocks.{BusBlockLoadRefused, BusBlockLoadedAt, BusValueStoreRefused, BusValuesStoredAt}
 use Rattle.probe_run.specs.Acts.{Tells}
 use Rattle.probe_run.specs.Happens.{target_of}
-use Rattle.probe_session.specs.BlockCalls.{BlockLoaded, BlockLoadedNone, BlockStored, BlockStoredNone, ElementStored, ElementStoredNone}
+use Rattle.probe_session.specs.BlockCalls.{BlockLoaded, BlockLoadedNone, BlockStored, BlockStoredNone}
 use Rattle.probe_session.specs.Blocks.{Loads, Stores, loading, storing}
 use Rattle.probe_session.specs.Led.{target_at}
 use Rattle.probe_session.proofs.BlockDeals.{all_bus_stored, all_copies_stored, copies_stored, each_bus_loaded, each_bus_stored, each_loaded, loads_deals}
-use Rattle.probe_session.proofs.BlockDeals.{store_once, stores_deals}
+use Rattle.probe_session.proofs.BlockDeals.{stores_deals}
 use Rattle.probe_session.proofs.Tolds.{at_far, told_case}
 use Rattle.probe_session.proofs.ToldWrites.{load_none_deals, store_none_deals}
 
@@ -92,22 +90,3 @@ block_stored_none_at {path} m h way size address values done o from faulted stor
     (record { board = l.refused.access.board; journal = l.refused.access.journal }) (deals_unpathed m h way o path _ lines (target_of l.mid)
     (stores_deals path size m h way o (take done values) lines (site_of c) l.mid stores
     (each_bus_stored size address values (site_of c) l.mid done (omega (arith, below)) l.each) d)))) told a
-
--- ---- one element in a call of its own
-
-pub element_stored_at : (m : Machine) (h : ℕ) (way : Way) (size : Size) (address value : ℕ) (o : Origin) (faulted stored : Plan) (lines : List Line)
-    (old new : Tells) → ElementStored size address value old new
-    → At m h way o (storing Bus size address value faulted stored) lines (target_at old.far) → At m h way o stored lines (target_at new.far)
-element_stored_at m h way size address value o faulted stored lines old new e a =
-    told_case (BusStoredAt size address value) m h way o _ lines (λ n. At m h way o stored lines (target_at n)) old.far new.far
-    (λ c d l. at_far m h way o stored lines l.far _ l.is (store_once Bus size address value m h way o faulted stored lines (site_of c) (site_of l.far)
-    (record { before = l.before; behind = l.behind; taken = l.taken; access = record { board = l.access.board; journal = l.access.journal } }) d)) e.told a
-
-pub element_stored_none_at : (m : Machine) (h : ℕ) (way : Way) (size : Size) (address value : ℕ) (o : Origin) (faulted stored : Plan) (lines : List Line)
-    (old new : Tells) → ElementStoredNone size address value old new
-    → At m h way o (storing Bus size address value faulted stored) lines (target_at old.far) → At m h way o faulted lines (target_at new.far)
-element_stored_none_at m h way size address value o faulted stored lines old new e a =
-    told_case (BusStoreRefused size address) m h way o _ lines (λ n. At m h way o faulted lines (target_at n)) old.far new.far
-    (λ c d l. at_far m h way o faulted lines l.far _ l.is (store_none_deals m h way size address l.why o faulted _ lines l.before l.behind (site_of c)
-    (site_of l.far) l.refused (record { board = l.access.board; journal = l.access.journal })
-    (deals_unpathed m h way o Bus _ lines (target_of (site_of c)) d))) e.told a

@@ -11,14 +11,13 @@ use Rattle.debug_model.specs.Told.{IsReady}
 use Rattle.abstract_debugger.specs.Ways.{Way}
 use Rattle.probe_access.specs.declared.fault.AccessFault.{AccessFault}
 use Rattle.probe_access.specs.declared.fault.AccessFault.TheVariants as fault
-use Rattle.probe_access.specs.Accesses.{BusStoreRefused, BusStoredAt}
 use Rattle.probe_access.specs.BlockRuns.{Causes, Fetched}
 use Rattle.probe_access.specs.Blocks.{BlockLoadLeft, BlockLoadRefused, BlockLoadedAt, BlockStoreLeft, BlockStoreRefused, BlockStoredAt, LoadedEach, StoredEach}
 use Rattle.probe_access.specs.Blocks.{element_at, value_at}
 use Rattle.probe_access.specs.BusBlockRuns.{BusCauses, BusLoads, BusLoadsRefused, BusValueStores, BusValueStoresRefused}
 use Rattle.probe_access.specs.BusBlocks.{BusBlockLoadLeft, BusBlockLoadRefused, BusBlockLoadedAt, BusLoadedEach, BusStoredValues, BusValueStoreRefused}
 use Rattle.probe_access.specs.BusBlocks.{BusValuesStoreLeft, BusValuesStoredAt}
-use Rattle.probe_access.specs.BusRuns.{BusStoreFailed, BusStored, cut_to}
+use Rattle.probe_access.specs.BusRuns.{cut_to}
 use Rattle.probe_access.specs.Cuts.{BusBefore, BusBehind, IfCut, Leaves, LeftAside, LeftBehind, LoadLeaves, Scratched, StoreLeaves}
 use Rattle.probe_access.specs.ReadRuns.{is_wide}
 use Rattle.probe_access.specs.ElementRuns.{LoadRuns, LoadRunsFailed, StoreRuns, StoreRunsFailed}
@@ -67,18 +66,6 @@ pub data BlockStoredNone : Path → Way → (h : ℕ) → (size : Size) → (add
   by_bus : {way : Way} {size : Size} {h address done : ℕ} {values : List ℕ} {old new : Tells}
       → BusValueStoresRefused size address values (length values) old new
       → WhereTold (BusValueStoreRefused size address values done) old.far new.far → BlockStoredNone Bus way h size address values done old new
-
--- one value was written by the system bus, in a call of its own
-pub record ElementStored (size : Size) (address value : ℕ) (old new : Tells) : Type 0 where
-  pub heard : BusStored size address value old new
-  pub told : WhereTold (BusStoredAt size address value) old.far new.far
-
--- and was refused
-pub record ElementStoredNone (size : Size) (address value : ℕ) (old new : Tells) : Type 0 where
-  pub old_count : ℕ
-  pub new_count : ℕ
-  pub heard : BusStoreFailed size address value old_count new_count old new (fault.Memory address)
-  pub told : WhereTold (BusStoreRefused size address) old.far new.far
 
 -- ---- calls that failed
 

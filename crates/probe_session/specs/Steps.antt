@@ -8,7 +8,6 @@ use Rattle.rv_model.specs.declared.size.Size.{Size}
 use Rattle.rv_model.specs.Cause.{cause_number}
 use Rattle.rv_model.specs.Registers.{csr_read_only, mip_number, pc_number}
 use Rattle.debug_model.specs.declared.command.Path.{Path}
-use Rattle.debug_model.specs.declared.command.Path.TheVariants.{Bus}
 use Rattle.debug_model.specs.Tap.{idcode}
 use Rattle.abstract_debugger.specs.Debugger.{arming, by_state, freeing, going, halted_of, halting, look, one}
 use Rattle.abstract_debugger.specs.Debugger.{register_line, saying, showing_mip, slots_shown_at, stop_line, value_here}
@@ -34,7 +33,7 @@ use Rattle.probe_session.specs.Calls.{FoundStop, Gave, GaveNone, Got, GotNone, G
 use Rattle.probe_session.specs.Calls.{NoneFree, NotUsed, PendingNone, StepMade, StepOverMade, ResumeMade, LookMade, SlotFreed, SlotTaken, Viewed}
 use Rattle.probe_trig.specs.Stepping.{shows_step}
 use Rattle.probe_access.specs.Blocks.{element_at, value_at}
-use Rattle.probe_session.specs.BlockCalls.{BlockLoaded, BlockLoadedNone, BlockStored, BlockStoredNone, ElementStored, ElementStoredNone}
+use Rattle.probe_session.specs.BlockCalls.{BlockLoaded, BlockLoadedNone, BlockStored, BlockStoredNone}
 use Rattle.probe_session.specs.Blocks.{Loads, Stores, loading, storing}
 use Rattle.probe_session.specs.Known.{IsWhole}
 use Rattle.probe_session.specs.Places.{Place, at_say, idle, may_say, place, ready, says_refused, spot, still}
@@ -166,9 +165,3 @@ pub data Step : Place → Tells → List Line → Place → Tells → Type 0 whe
       → Stores path size address (take done values) from (storing path size (element_at size address done) (value_at values done) faulted stored)
       → BlockStoredNone path way h size address values done old new
       → Step (place way h from) old [] (place way h faulted) new
-  -- one element in a call of its own
-  stores_element : {way : Way} {h address value : ℕ} {size : Size} (faulted stored : Plan) {old new : Tells} → ElementStored size address value old new
-      → Step (place way h (storing Bus size address value faulted stored)) old [] (place way h stored) new
-  stores_element_none : {way : Way} {h address value : ℕ} {size : Size} (faulted stored : Plan) {old new : Tells}
-      → ElementStoredNone size address value old new
-      → Step (place way h (storing Bus size address value faulted stored)) old [] (place way h faulted) new
