@@ -9,10 +9,10 @@ ghost use Rattle.probe_run.specs.Told.{Fails, OnChip, told};
 ghost use Rattle.elf_load.specs.Elf.{ReadsAs, elements, elements_most, memory_size};
 ghost use Rattle.elf_load.specs.Stores.{MadeAll, MadeUpTo, StoredAt, StoresCut, StoresKeep, StoresLeft};
 
-use crate::element::element_at;
 use crate::file::{Elf, Segment};
+use crate::run::run_at;
 use debug_model::Dmi;
-use probe_access::{AccessFault, bus_store};
+use probe_access::{AccessFault, bus_store_values};
 
 /// How many bytes the segments have in memory together.
 fn bytes_in_memory(segments: &[Segment]) -> u64
@@ -43,10 +43,10 @@ pub fn load_elf<D: Dmi>(link: &mut D, elf: &Elf, file: &[u8]) -> Result<u64, Acc
     let segments = elf.segments.as_slice();
     'segments: for segment in segments {
         let mut done = 0;
-        'elements: while done < segment.in_memory {
-            let element = element_at(segment, done, file);
-            bus_store(link, element.size, element.address, element.value)?;
-            done += u64::from(element.size.count());
+        'runs: while done < segment.in_memory {
+            let run = run_at(segment, done, file);
+            bus_store_values(link, run.size, run.address, &run.values)?;
+            done += run.values.len() as u64 * u64::from(run.size.count());
         }
     }
     Ok(bytes_in_memory(segments))
