@@ -1,6 +1,6 @@
 //! The elements of a segment: what is stored at once.
 
-ghost use Rattle.std.specs.Prelude.{◌≡◌, ◌+◌, ◌<◌, ◌≤◌, ◌∷◌, drop, length, take, true};
+ghost use Rattle.std.specs.Prelude.{◌≡◌, ◌+◌, ◌-◌, ◌<◌, ◌≤◌, ◌∷◌, drop, length, take, true};
 ghost use Rattle.rv_model.specs.Memory.{is_aligned};
 ghost use Rattle.rv_model.specs.Size.{count_of};
 ghost use Rattle.elf_load.specs.Elements.{bytes_of, cut};
@@ -59,6 +59,7 @@ pub(crate) fn element_at(segment: &Segment, done: u64, file: &[u8]) -> Element
     requires ends { segment.now.address + segment.now.in_memory ≤ all_addresses }
     ensures next { cut (segment.now.address + done) (drop done (bytes_of file.now segment.now))
         ≡ result ∷ cut (segment.now.address + (done + count_of result.size)) (drop (done + count_of result.size) (bytes_of file.now segment.now)) }
+    ensures starts { result.address ≡ segment.now.address + done }
     ensures size { result.size ≡ size_from (segment.now.address + done) (segment.now.in_memory - done) }
     ensures aligned { is_aligned result.address result.size ≡ true }
     ensures within { done + count_of result.size ≤ segment.now.in_memory }

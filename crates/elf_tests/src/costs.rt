@@ -1,7 +1,7 @@
 //! What loading a file over the system bus costs in rises of TCK. At busy 1 no capture finds the transport busy: a scan of `dmi` takes 46 rises, and each call
 //! of at most 128 operations one scan more than operations.
 
-ghost use Rattle.std.specs.Prelude.{◌≤◌, ◌×◌, IfSome, IsSome, OnOk};
+ghost use Rattle.std.specs.Prelude.{◌≤◌, IfSome, IsSome, OnOk};
 ghost use Rattle.debug_model.specs.Kept.{CanCall};
 ghost use Rattle.debug_model.specs.Loaded.{AsLoaded};
 
@@ -65,7 +65,10 @@ fn rises(rt: &impl Abort, alloc: Global, busy: u8, words: u64) -> Result<u64, Fa
     let mut bench = Bench::blank();
     let schedule = SeedSchedule::new(7, busy, 1);
     bench.load(alloc, &[], 1, RAM_LEAST, Start::Halted, schedule)?;
-    assert_eq!(rt; load_over(&mut bench, &file), Ok(Loaded::All(words.wrapping_mul(8))));
+    assert_eq!(rt;
+        load_over(&mut bench, &file),
+        Ok(Loaded::All(words.wrapping_mul(8)))
+    );
     Ok(bench.counts().rounds)
 }
 
