@@ -1,5 +1,6 @@
 -- A call on a block of memory that failed, over a told chip.
-use Rattle.std.proofs.Common.{◌∙◌, ℕ, List, Option, Some, None, refl, sym, ap, subst}
+use Rattle.std.proofs.Common.{◌≡◌, ◌∙◌, ◌<◌, ℕ, List, length, replicate, take, Option, Some, None, refl, sym, ap, subst, arith}
+use Rattle.std.proofs.lemmas.List.{get_or-replicate, length-replicate}
 use Rattle.std.proofs.lemmas.Option.{none-some, same_Some}
 use Rattle.rv_model.specs.declared.size.Size.{Size}
 use Rattle.rv_model.specs.Board.{Machine, machine_of}
@@ -15,8 +16,8 @@ use Rattle.abstract_debugger.specs.Ways.{Way}
 use Rattle.abstract_debugger.proofs.StandsLemmas.{went_on}
 use Rattle.probe_access.specs.declared.fault.AccessFault.{AccessFault}
 use Rattle.probe_access.specs.declared.fault.AccessFault.TheVariants as fault
-use Rattle.probe_access.specs.Blocks.{BlockLoadLeft, BlockStoreLeft, element_at}
-use Rattle.probe_access.specs.BusBlocks.{BusBlockLoadLeft, BusBlockStoreLeft}
+use Rattle.probe_access.specs.Blocks.{BlockLoadLeft, BlockStoreLeft, element_at, value_at}
+use Rattle.probe_access.specs.BusBlocks.{BusBlockLoadLeft, BusValuesStoreLeft}
 use Rattle.probe_access.specs.Cuts.{BusBefore, BusBehind, LeftAside, LeftBehind, Leaves, LoadLeaves, Scratched, StoreLeaves}
 use Rattle.probe_run.specs.declared.fault.RunFault.{RunFault}
 use Rattle.probe_run.specs.Happens.{target_of}
@@ -25,7 +26,7 @@ use Rattle.probe_session.specs.BlockCalls.{BlockLoadFell, BlockStoreFell, BusLoa
 use Rattle.probe_session.specs.Blocks.{MayLoad, Stores}
 use Rattle.probe_session.specs.Led.{target_at}
 use Rattle.probe_session.specs.Transcribed.{Still}
-use Rattle.probe_session.proofs.BlockDeals.{EachLoaded, EachStored, each_bus_loaded, each_bus_stored, each_loaded, each_stored}
+use Rattle.probe_session.proofs.BlockDeals.{EachLoaded, EachStored, copies_stored, each_bus_loaded, each_bus_stored, each_loaded}
 use Rattle.probe_session.proofs.BrokeOff.{OfTheLink, is_told, left_still}
 use Rattle.left_laws.specs.Left.Spared.{Nothing}
 use Rattle.left_laws.proofs.Stopped.{serving_frozen}
@@ -140,40 +141,51 @@ loading_block_cut Bus way h size address count p old_count new_count old new f m
 
 -- ---- stores
 
-stores_by_hart : (path : Path) (m : Machine) (h : ℕ) (way : Way) (o : Origin) (size : Size) (address value count : ℕ) (p to : Plan)
-    (lines : List Line) (s t : Site) (stores : Stores path size value address count p to) → QuietStores stores → IsFrozenAt h s.board
-    → Deals m h way o p lines (target_of s) → StoresCut size address value count h s t → EndsBut (lost h None) o (target_of t)
-stores_by_hart path m h way o size address value count p to lines s t stores quiet frozen d (SomeStored.between done mid each few rest) =
-    let e : EachStored size value address s done mid = each_stored size address value s mid done each in
-    hart_between m h way o mid t (stores_frozen h size value e frozen)
-    (stores_quiet path size value m h way o count done lines s mid stores quiet e few d) rest
-stores_by_hart path m h way o size address value count p to lines s t stores quiet frozen d (SomeStored.within done mid each few rest) =
-    let e : EachStored size value address s done mid = each_stored size address value s mid done each in
-    hart_store m h way o size value (element_at size address done) mid t (stores_frozen h size value e frozen)
-    (stores_at path size value m h way o count done lines s mid stores quiet e few d) rest
+as_many : (values : List ℕ) (value count : ℕ) → values ≡ replicate count value → length values ≡ count
+as_many values value count are = ap length are ∙ length-replicate {A = ℕ} count value
 
-stores_by_bus : (path : Path) (m : Machine) (h : ℕ) (way : Way) (o : Origin) (size : Size) (address value count : ℕ) (p to : Plan)
-    (lines : List Line) (s t : Site) (stores : Stores path size value address count p to) → QuietStores stores
-    → Deals m h way o p lines (target_of s) → BusStoresCut size address value count s t → EndsBut Nothing o (target_of t)
-stores_by_bus path m h way o size address value count p to lines s t stores quiet d (SomeStored.between done mid each few rest) =
+-- a copy is the value
+copy_is : (values : List ℕ) (value count n : ℕ) → values ≡ replicate count value → n < count → value_at values n ≡ value
+copy_is values value count n are below = ap (λ vs. value_at vs n) are ∙ get_or-replicate count n value 0 below
+
+stores_by_hart : (path : Path) (m : Machine) (h : ℕ) (way : Way) (o : Origin) (size : Size) (address : ℕ) (values : List ℕ) (value count : ℕ) (p to : Plan)
+    (lines : List Line) (s t : Site) (stores : Stores path size address values p to) → QuietStores stores → values ≡ replicate count value
+    → IsFrozenAt h s.board → Deals m h way o p lines (target_of s) → StoresCut size address value count h s t → EndsBut (lost h None) o (target_of t)
+stores_by_hart path m h way o size address values value count p to lines s t stores quiet are frozen d (SomeStored.between done mid each few rest) =
+    let all : length values ≡ count = as_many values value count are in
+    let e : EachStored size address s (take done values) mid = copies_stored size address value count values s mid done are few each in
+    hart_between m h way o mid t (stores_frozen h size e frozen)
+    (stores_quiet path size m h way o values done lines s mid stores quiet e (omega (arith, all, few)) d) rest
+stores_by_hart path m h way o size address values value count p to lines s t stores quiet are frozen d (SomeStored.within done mid each few rest) =
+    let all : length values ≡ count = as_many values value count are in
+    let e : EachStored size address s (take done values) mid = copies_stored size address value count values s mid done are (omega (arith, few)) each in
+    hart_store m h way o size value (element_at size address done) mid t (stores_frozen h size e frozen)
+    (subst (λ v. StoreAt m h way o size v (element_at size address done) (target_of mid)) (copy_is values value count done are few)
+    (stores_at path size m h way o values done lines s mid stores quiet e (omega (arith, all, few)) d)) rest
+
+stores_by_bus : (path : Path) (m : Machine) (h : ℕ) (way : Way) (o : Origin) (size : Size) (address : ℕ) (values : List ℕ) (p to : Plan)
+    (lines : List Line) (s t : Site) (stores : Stores path size address values p to) → QuietStores stores
+    → Deals m h way o p lines (target_of s) → BusStoresCut size address values s t → EndsBut Nothing o (target_of t)
+stores_by_bus path m h way o size address values p to lines s t stores quiet d (SomeStored.between done mid each few rest) =
     bus_between m h way o mid t
-    (stores_quiet path size value m h way o count done lines s mid stores quiet (each_bus_stored size address value s mid done each) few d) rest
-stores_by_bus path m h way o size address value count p to lines s t stores quiet d (SomeStored.within done mid each few rest) =
-    bus_store m h way o size value (element_at size address done) mid t
-    (stores_at path size value m h way o count done lines s mid stores quiet (each_bus_stored size address value s mid done each) few d) rest
+    (stores_quiet path size m h way o values done lines s mid stores quiet (each_bus_stored size address values s mid done few each) few d) rest
+stores_by_bus path m h way o size address values p to lines s t stores quiet d (SomeStored.within done mid each few rest) =
+    bus_store m h way o size (value_at values done) (element_at size address done) mid t
+    (stores_at path size m h way o values done lines s mid stores quiet (each_bus_stored size address values s mid done (omega (arith, few)) each) few d)
+    rest
 
 pub storing_block_cut : StoringBlockCut
-storing_block_cut Progbuf way h size address value count p to old_count new_count old new f stores quiet
-    (BlockStoreFell.by_hart why known serving later heard causes told cut is) m o lines a =
+storing_block_cut Progbuf way h size address values p to old_count new_count old new f stores quiet
+    (BlockStoreFell.by_hart why value count are known serving later heard causes told cut is) m o lines a =
     served_still (StoresCut size address value count h) m h way o p lines (λ g. EndsBut (lost h None) o (target_of (site_of g))) old.far new.far
-    (λ x y frozen d c. stores_by_hart Progbuf m h way o size address value count p to lines (site_of x) (site_of y) stores quiet frozen d c) serving
+    (λ x y frozen d c. stores_by_hart Progbuf m h way o size address values value count p to lines (site_of x) (site_of y) stores quiet are frozen d c) serving
     (cut_of why f (Leaves (StoresCut size address value count h) old.far new.far) is
     (of_link (BlockStoreLeft size address count value old.far new.far) why (λ number l. is_told m h way o p lines old.far a l) (λ w l. l)
     (λ shown l. is_told m h way o p lines old.far a l) told) cut) a
-storing_block_cut Bus way h size address value count p to old_count new_count old new f stores quiet
+storing_block_cut Bus way h size address values p to old_count new_count old new f stores quiet
     (BlockStoreFell.by_bus why ready later causes told cut is) m o lines a =
-    left_still (BusStoresCut size address value count) m h way o p lines (λ g. EndsBut Nothing o (target_of (site_of g))) old.far new.far
-    (λ x y d c. stores_by_bus Bus m h way o size address value count p to lines (site_of x) (site_of y) stores quiet d c)
-    (cut_of why f (Leaves (BusStoresCut size address value count) old.far new.far) is
-    (of_link (BusBlockStoreLeft size address count value old.far new.far) why (λ number l. is_told m h way o p lines old.far a l) (λ w l. l)
+    left_still (BusStoresCut size address values) m h way o p lines (λ g. EndsBut Nothing o (target_of (site_of g))) old.far new.far
+    (λ x y d c. stores_by_bus Bus m h way o size address values p to lines (site_of x) (site_of y) stores quiet d c)
+    (cut_of why f (Leaves (BusStoresCut size address values) old.far new.far) is
+    (of_link (BusValuesStoreLeft size address values (length values) old.far new.far) why (λ number l. is_told m h way o p lines old.far a l) (λ w l. l)
     (λ shown l. is_told m h way o p lines old.far a l) told) cut) a

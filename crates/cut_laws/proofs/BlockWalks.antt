@@ -1,5 +1,5 @@
 -- Elements of a block that were accessed, one behind another, over a told chip: where the plan stands behind them, and that it changes nothing there.
-use Rattle.std.proofs.Common.{◌≡◌, ◌∙◌, ◌≤◌, ◌<◌, ◌+◌, ◌++◌, ℕ, zero, suc, List, [], ◌∷◌, length, slice_get, sym, ap, subst, arith}
+use Rattle.std.proofs.Common.{◌≡◌, ◌∙◌, ◌≤◌, ◌<◌, ◌+◌, ◌++◌, ℕ, zero, suc, List, [], ◌∷◌, length, slice_get, take as first_of, sym, ap, subst, arith}
 use Rattle.rv_model.specs.declared.size.Size.{Size}
 use Rattle.rv_model.specs.Board.{Board, Machine}
 use Rattle.rv_model.specs.Memory.{after_store, loaded, store_answer}
@@ -17,7 +17,7 @@ use Rattle.abstract_debugger.specs.Stands.{Deals, Origin, Target}
 use Rattle.abstract_debugger.specs.Turns.{after_turns}
 use Rattle.abstract_debugger.specs.Ways.{Way}
 use Rattle.abstract_debugger.proofs.DealsLemmas.{deals_put, deals_unpathed}
-use Rattle.probe_access.specs.Blocks.{element_at}
+use Rattle.probe_access.specs.Blocks.{element_at, value_at}
 use Rattle.probe_run.specs.Happens.{target_of}
 use Rattle.probe_session.specs.Blocks.{MayLoad, Says, Stores, loading}
 use Rattle.probe_session.proofs.BlockDeals.{EachLoaded, EachStored, LoadedOnce, later_is, store_once}
@@ -37,11 +37,11 @@ loads_frozen k size {s = s} (EachLoaded.further m one each) frozen =
     (ap (λ (b : Board). slice_get b.harts k) one.access.board
     ∙ stays_between k one.before one.behind (after_turns one.before s.board).memory s.board frozen) frozen)
 
-pub stores_frozen : (k : ℕ) (size : Size) (value : ℕ) {address count : ℕ} {s t : Site} → EachStored size value address s count t → IsFrozenAt k s.board
+pub stores_frozen : (k : ℕ) (size : Size) {address : ℕ} {s t : Site} {values : List ℕ} → EachStored size address s values t → IsFrozenAt k s.board
     → IsFrozenAt k t.board
-stores_frozen k size value EachStored.nothing frozen = frozen
-stores_frozen k size value {address} {s = s} (EachStored.further m one each) frozen =
-    stores_frozen k size value each
+stores_frozen k size EachStored.nothing frozen = frozen
+stores_frozen k size {address} {s = s} (EachStored.further {value = value} m one each) frozen =
+    stores_frozen k size each
     (frozen_along k s.board m.board
     (ap (λ (b : Board). slice_get b.harts k) one.access.board
     ∙ stays_between k one.before one.behind (after_store (after_turns one.before s.board).memory address size value) s.board frozen) frozen)
@@ -141,27 +141,28 @@ loads_at path size m h way o {address} (suc count) (value ∷ values) lines s t 
 first_is : (size : Size) (address : ℕ) → element_at size address 0 ≡ address
 first_is size address = omega arith
 
-first_store : {path : Path} {size : Size} {value address count : ℕ} {p to : Plan} (stores : Stores path size value address count p to) → QuietStores stores
-    → Quiet p
+first_store : {path : Path} {size : Size} {address : ℕ} {values : List ℕ} {p to : Plan} (stores : Stores path size address values p to)
+    → QuietStores stores → Quiet p
 first_store Stores.nothing quiet = quiet
 first_store (Stores.further faulted next rest) quiet = tt
 
-pub stores_quiet : (path : Path) (size : Size) (value : ℕ) (m : Machine) (h : ℕ) (way : Way) (o : Origin) {address : ℕ} {p to : Plan} (count done : ℕ)
-    (lines : List Line) (s t : Site) (stores : Stores path size value address count p to) → QuietStores stores → EachStored size value address s done t
-    → done ≤ count → Deals m h way o p lines (target_of s) → QuietAt m h way o (target_of t)
-stores_quiet path size value m h way o {p = p} count zero lines s t stores quiet EachStored.nothing few d =
-    record { plan = p; lines = lines; deals = d; quiet = first_store stores quiet }
-stores_quiet path size value m h way o zero (suc done) lines s t stores quiet each few d = absurd (omega (arith, few))
-stores_quiet path size value m h way o {address} (suc count) (suc done) lines s t (Stores.further faulted next rest) quiet
+pub stores_quiet : (path : Path) (size : Size) (m : Machine) (h : ℕ) (way : Way) (o : Origin) {address : ℕ} (values : List ℕ) (done : ℕ) {p to : Plan}
+    (lines : List Line) (s t : Site) (stores : Stores path size address values p to) → QuietStores stores → EachStored size address s (first_of done values) t
+    → done ≤ length values → Deals m h way o p lines (target_of s) → QuietAt m h way o (target_of t)
+stores_quiet path size m h way o values zero lines s t stores quiet EachStored.nothing few d =
+    record { plan = _; lines = lines; deals = d; quiet = first_store stores quiet }
+stores_quiet path size m h way o [] (suc done) lines s t stores quiet each few d = absurd (omega (arith, few))
+stores_quiet path size m h way o {address} (value ∷ values) (suc done) lines s t (Stores.further faulted next rest) quiet
     (EachStored.further k one each) few d =
-    stores_quiet path size value m h way o {address = address + count_of size} count done lines k t rest quiet.1 each (omega (arith, few))
+    stores_quiet path size m h way o {address = address + count_of size} values done lines k t rest quiet.1 each (omega (arith, few))
     (store_once path size address value m h way o faulted next lines s k one d)
 
-pub stores_at : (path : Path) (size : Size) (value : ℕ) (m : Machine) (h : ℕ) (way : Way) (o : Origin) {address : ℕ} {p to : Plan} (count done : ℕ)
-    (lines : List Line) (s t : Site) (stores : Stores path size value address count p to) → QuietStores stores → EachStored size value address s done t
-    → done < count → Deals m h way o p lines (target_of s) → StoreAt m h way o size value (element_at size address done) (target_of t)
-stores_at path size value m h way o zero done lines s t stores quiet each few d = absurd (omega (arith, few))
-stores_at path size value m h way o {address} (suc count) zero lines s t (Stores.further faulted next rest) quiet EachStored.nothing few d =
+pub stores_at : (path : Path) (size : Size) (m : Machine) (h : ℕ) (way : Way) (o : Origin) {address : ℕ} {p to : Plan} (values : List ℕ) (done : ℕ)
+    (lines : List Line) (s t : Site) (stores : Stores path size address values p to) → QuietStores stores → EachStored size address s (first_of done values) t
+    → done < length values → Deals m h way o p lines (target_of s)
+    → StoreAt m h way o size (value_at values done) (element_at size address done) (target_of t)
+stores_at path size m h way o [] done lines s t stores quiet each few d = absurd (omega (arith, few))
+stores_at path size m h way o {address} (value ∷ values) zero lines s t (Stores.further faulted next rest) quiet EachStored.nothing few d =
     subst (λ a. StoreAt m h way o size value a (target_of t)) (sym (first_is size address)) (record {
       faulted = faulted;
       stored = next;
@@ -170,8 +171,8 @@ stores_at path size value m h way o {address} (suc count) zero lines s t (Stores
       fault = quiet.0;
       stores = first_store rest quiet.1;
     })
-stores_at path size value m h way o {address} (suc count) (suc done) lines s t (Stores.further faulted next rest) quiet
+stores_at path size m h way o {address} (value ∷ values) (suc done) lines s t (Stores.further faulted next rest) quiet
     (EachStored.further k one each) few d =
-    subst (λ a. StoreAt m h way o size value a (target_of t)) (sym (later_is size address done))
-    (stores_at path size value m h way o {address = address + count_of size} count done lines k t rest quiet.1 each (omega (arith, few))
+    subst (λ a. StoreAt m h way o size (value_at values done) a (target_of t)) (sym (later_is size address done))
+    (stores_at path size m h way o {address = address + count_of size} values done lines k t rest quiet.1 each (omega (arith, few))
     (store_once path size address value m h way o faulted next lines s k one d))

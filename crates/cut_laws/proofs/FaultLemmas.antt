@@ -70,8 +70,8 @@ faults_leave n p b c old new f (Fault.behind {h} {count = k} {p = q} {mid = mid}
 faults_leave n p b c old new f (Fault.stopping {h} {p = q} fell) w m o lines a = stopping_cut h n q b c old new f fell m o lines w a
 faults_leave n p b c old new f (Fault.loading_block {path} {way} {h} {address} {count} {size = size} {p = q} may fell) w m o lines a =
     loading_block_cut path way h size address count q b c old new f may w fell m o lines a
-faults_leave n p b c old new f (Fault.storing_block {path} {way} {h} {address} {value} {count} {size = size} {p = q} {to} stores fell) w m o lines a =
-    storing_block_cut path way h size address value count q to b c old new f stores w fell m o lines a
+faults_leave n p b c old new f (Fault.storing_block {path} {way} {h} {address} {size = size} {values} {p = q} {to} stores fell) w m o lines a =
+    storing_block_cut path way h size address values q to b c old new f stores w fell m o lines a
 
 -- ---- a command
 

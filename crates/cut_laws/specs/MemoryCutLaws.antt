@@ -35,7 +35,7 @@ abbrev pub QuietLoads : {path : Path} {size : Size} {address count : ℕ} {p : P
 QuietLoads (MayLoad.nothing {p = p}) = Quiet p
 QuietLoads (MayLoad.further faulted read said next says may) = Quiet faulted × ((value : ℕ) → QuietLoads (may value))
 
-abbrev pub QuietStores : {path : Path} {size : Size} {value address count : ℕ} {p to : Plan} → Stores path size value address count p to → Type 0
+abbrev pub QuietStores : {path : Path} {size : Size} {address : ℕ} {values : List ℕ} {p to : Plan} → Stores path size address values p to → Type 0
 QuietStores (Stores.nothing {p = p}) = Quiet p
 QuietStores (Stores.further faulted next rest) = Quiet faulted × QuietStores rest
 
@@ -50,7 +50,7 @@ LoadingBlockCut = (path : Path) (way : Way) (h : ℕ) (size : Size) (address cou
     → (m : Machine) (o : Origin) (lines : List Line) → DealsAt m o (place way h p) lines old.far → LeftByPath path h o new.far
 
 abbrev pub StoringBlockCut : Type 0
-StoringBlockCut = (path : Path) (way : Way) (h : ℕ) (size : Size) (address value count : ℕ) (p to : Plan) (old_count new_count : ℕ) (old new : Tells)
-    (f : Failure) → (stores : Stores path size value address count p to) → QuietStores stores
-    → BlockStoreFell path way h size address value count old_count new_count old new f
+StoringBlockCut = (path : Path) (way : Way) (h : ℕ) (size : Size) (address : ℕ) (values : List ℕ) (p to : Plan) (old_count new_count : ℕ)
+    (old new : Tells) (f : Failure) → (stores : Stores path size address values p to) → QuietStores stores
+    → BlockStoreFell path way h size address values old_count new_count old new f
     → (m : Machine) (o : Origin) (lines : List Line) → DealsAt m o (place way h p) lines old.far → LeftByPath path h o new.far

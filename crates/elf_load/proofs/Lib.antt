@@ -1,8 +1,11 @@
+pub mod CallLemmas
 pub mod CutLemmas
 pub mod CutSteps
+pub mod ElementLemmas
 pub mod Going
 pub mod LayLemmas
 pub mod NumberLemmas
 pub mod PieceLemmas
+pub mod RowLemmas
 pub mod SegmentLemmas
 pub mod SoundLemmas

@@ -1,6 +1,6 @@
--- What storing elements by the system bus does at a told chip, and which calls on the link it is: one access for each element, in order, up to and with
--- the first that memory refuses. It is this project's own. It doesn't depend on how many elements a call takes.
-use Rattle.std.specs.Prelude.{◌≡◌, ◌≤◌, ◌++◌, ◌∷◌, ℕ, List, [], Option, None, Some, Ok, Err, Result, ⊤}
+-- What storing elements by the system bus does at a told chip: one access for each element, in order, up to and with the first that memory refuses, however
+-- many elements a call takes. And which calls on the link it is: one for each run. It is this project's own.
+use Rattle.std.specs.Prelude.{◌≡◌, ◌<◌, ◌≤◌, ◌++◌, ◌∷◌, ℕ, List, [], Option, None, Some, Ok, Err, Result, length, ⊤}
 use Rattle.rv_model.specs.declared.mem_fault.MemFault.{MemFault}
 use Rattle.rv_model.specs.Memory.{after_store, store_answer}
 use Rattle.debug_model.specs.Chip.{Chip}
@@ -12,12 +12,15 @@ use Rattle.abstract_debugger.specs.Turns.{after_turns}
 use Rattle.probe_run.specs.Acts.{Tells}
 use Rattle.probe_access.specs.declared.fault.AccessFault.{AccessFault}
 use Rattle.probe_access.specs.declared.fault.AccessFault.TheVariants as fault
-use Rattle.probe_access.specs.Accesses.{AccessLeft, BusStoreRefused, BusStoredAt, OneBusAccess, unchanged}
-use Rattle.probe_access.specs.BusRuns.{BusStoreFailed, BusStored}
+use Rattle.probe_access.specs.Accesses.{IfMemory, OneBusAccess, unchanged}
+use Rattle.probe_access.specs.BusBlockRuns.{BusCauses, BusValueStores, BusValueStoresRefused}
+use Rattle.probe_access.specs.BusBlocks.{BusValuesStoreCut, BusValuesStoreLeft, BusValuesStoredAt}
 use Rattle.probe_access.specs.Cuts.{BusLeftOff, IfCut, Leaves, StoreLeaves}
 use Rattle.probe_access.specs.Faults.{access_why}
 use Rattle.probe_access.specs.Registers.{site_before}
 use Rattle.elf_load.specs.declared.element.Element.{Element}
+use Rattle.elf_load.specs.declared.run.Run.{Run}
+use Rattle.elf_load.specs.Runs.{elements_in, joined}
 
 -- ---- at the chip
 
@@ -88,26 +91,37 @@ pub record StoresCut (es : List Element) (s t : Site) : Type 0 where
 
 -- ---- the calls on the link
 
--- each element's store was made, in order, and where the chip is told that is what it did there
-pub data MadeAll (old : Tells) : List Element → Tells → Type 0 where
-  nothing : MadeAll old [] old
-  further : (es : List Element) (e : Element) (mid new : Tells) → MadeAll old es mid → BusStored e.size e.address e.value mid new
-      → WhereTold (BusStoredAt e.size e.address e.value) mid.far new.far → MadeAll old (es ++ e ∷ []) new
+-- each run was stored by one call, in order, and where the chip is told that is what it did there
+pub data MadeEach (old : Tells) : List Run → Tells → Type 0 where
+  nothing : MadeEach old [] old
+  further : (runs : List Run) (r : Run) (mid new : Tells) → MadeEach old runs mid
+      → BusValueStores r.size r.address r.values.items mid (length r.values.items) new
+      → WhereTold (BusValuesStoredAt r.size r.address r.values.items (length r.values.items)) mid.far new.far → MadeEach old (runs ++ r ∷ []) new
 
--- those in front were made, and the next failed, which left the chip so where it is told
-pub record MadeUpTo (es : List Element) (old_count new_count : ℕ) (old new : Tells) (e : AccessFault) : Type 0 where
-  pub done : List Element
-  pub next : Element
-  pub within : Within es done next
+-- the elements were stored in runs, by so many calls at most
+pub record MadeAll (es : List Element) (most : ℕ) (old new : Tells) : Type 0 where
+  pub runs : List Run
+  pub parts : joined runs ≡ es
+  pub few : length runs ≤ most
+  pub each : MadeEach old runs new
+
+-- those in front were made, and the next call failed, which left the chip so where it is told
+pub record MadeUpTo (es : List Element) (most : ℕ) (old_count new_count : ℕ) (old new : Tells) (e : AccessFault) : Type 0 where
+  pub runs : List Run
+  pub next : Run
+  pub rest : List Element
+  pub parts : joined runs ++ (elements_in next ++ rest) ≡ es
+  pub few : length runs < most
   pub mid : Tells
-  pub made : MadeAll old done mid
+  pub each : MadeEach old runs mid
   pub mid_count : ℕ
   pub later : old_count ≤ mid_count
   pub later_still : mid_count ≤ new_count
   pub ready : IsReady mid.far
-  pub failed : BusStoreFailed next.size next.address next.value mid_count new_count mid new e
-  pub left : AccessLeft (BusStoreRefused next.size next.address) next.address mid.far new.far e
-  pub cut : IfCut (Leaves (BusLeftOff (StoreLeaves next.size next.address next.value)) mid.far new.far) e
+  pub refused : IfMemory (BusValueStoresRefused next.size next.address next.values.items (length next.values.items) mid new) e
+  pub left : BusValuesStoreLeft next.size next.address next.values.items (length next.values.items) mid.far new.far e
+  pub causes : BusCauses mid_count new_count mid new e
+  pub cut : IfCut (Leaves (BusValuesStoreCut next.size next.address next.values.items (length next.values.items)) mid.far new.far) e
 
 -- ---- what is kept
 

@@ -1,11 +1,12 @@
 //! The elements of a segment: what is stored at once.
 
-ghost use Rattle.std.specs.Prelude.{◌≡◌, ◌+◌, ◌<◌, ◌≤◌, ◌∷◌, drop, length, take, true};
+ghost use Rattle.std.specs.Prelude.{◌≡◌, ◌+◌, ◌-◌, ◌<◌, ◌≤◌, ◌∷◌, drop, length, take, true};
 ghost use Rattle.rv_model.specs.Memory.{is_aligned};
 ghost use Rattle.rv_model.specs.Size.{count_of};
 ghost use Rattle.elf_load.specs.Elements.{bytes_of, cut};
 ghost use Rattle.elf_load.specs.Elf.{all_addresses};
 ghost use Rattle.elf_load.specs.Fields.{number_of};
+ghost use Rattle.elf_load.specs.Runs.{size_from};
 
 use crate::count::WORD_SIZE;
 use crate::file::Segment;
@@ -21,6 +22,17 @@ pub struct Element {
     pub size: Size,
     /// The number that its bytes spell, the one at the address lowest.
     pub value: u64,
+}
+
+/// How many bytes the element at an address has, where its segment has so many bytes from there on.
+pub(crate) fn size_at(address: u64, bytes: u64) -> Size
+    ensures { result ≡ size_from address bytes }
+{
+    if address % WORD_SIZE == 0 && bytes >= WORD_SIZE {
+        Size::B8
+    } else {
+        Size::B1
+    }
 }
 
 /// The number in so many of a segment's bytes, behind those that are done: of the file, and zeros behind these.
@@ -47,23 +59,17 @@ pub(crate) fn element_at(segment: &Segment, done: u64, file: &[u8]) -> Element
     requires ends { segment.now.address + segment.now.in_memory ≤ all_addresses }
     ensures next { cut (segment.now.address + done) (drop done (bytes_of file.now segment.now))
         ≡ result ∷ cut (segment.now.address + (done + count_of result.size)) (drop (done + count_of result.size) (bytes_of file.now segment.now)) }
+    ensures starts { result.address ≡ segment.now.address + done }
+    ensures size { result.size ≡ size_from (segment.now.address + done) (segment.now.in_memory - done) }
     ensures aligned { is_aligned result.address result.size ≡ true }
     ensures within { done + count_of result.size ≤ segment.now.in_memory }
 {
     let address = segment.address + done;
-    if address % WORD_SIZE == 0 && segment.in_memory - done >= WORD_SIZE {
-        let value = value_at(segment, done, WORD_SIZE, file);
-        Element {
-            address,
-            size: Size::B8,
-            value,
-        }
-    } else {
-        let value = value_at(segment, done, 1, file);
-        Element {
-            address,
-            size: Size::B1,
-            value,
-        }
+    let size = size_at(address, segment.in_memory - done);
+    let value = value_at(segment, done, u64::from(size.count()), file);
+    Element {
+        address,
+        size,
+        value,
     }
 }

@@ -12,6 +12,7 @@ mod header;
 mod laws;
 mod loading;
 mod reading;
+mod run;
 mod table;
 #[cfg(test)]
 mod tests;
@@ -21,3 +22,4 @@ pub use file::{Elf, SEGMENTS_MOST, Segment};
 pub use laws::elements_lay_their_segments;
 pub use loading::load_elf;
 pub use reading::read_elf;
+pub use run::Run;

@@ -4,6 +4,8 @@
 #![tactic(auto)]
 
 #[cfg(test)]
+mod costs;
+#[cfg(test)]
 mod files;
 #[cfg(test)]
 mod memory;

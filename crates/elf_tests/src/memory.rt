@@ -31,7 +31,7 @@ const PIECE: usize = 256;
 
 /// Why nothing was loaded.
 #[derive(Clone, Copy, Debug, PartialEq, Eq)]
-enum Fault {
+pub enum Fault {
     /// The opening failed.
     Connect(ConnectFault),
     /// The file was refused.
@@ -62,7 +62,7 @@ impl From<AccessFault> for Fault {
 
 /// What was loaded.
 #[derive(Clone, Copy, Debug, PartialEq, Eq)]
-enum Loaded {
+pub enum Loaded {
     /// All segments, with so many bytes in memory.
     All(u64),
     /// The elements in front of the one at this address, which memory refused.
@@ -70,7 +70,7 @@ enum Loaded {
 }
 
 /// Loads a file.
-fn try_load<D: Dmi>(link: &mut D, file: &[u8]) -> Result<Loaded, Fault>
+pub fn try_load<D: Dmi>(link: &mut D, file: &[u8]) -> Result<Loaded, Fault>
     requires callable { CanCall (D.seen link.old) }
     requires ready { IsReady (D.seen link.old).far }
     ensures callable { OnOk result (CanCall (D.seen link.new)) }

@@ -33,15 +33,14 @@ const ENDED: u32 = 0x0400_0002;
 
 const REFUSED: u32 = 0x0400_0302;
 
-/// What is answered up to the write of pc: the opening with its Look, the Look of the hart, two elements, and the Look behind them.
-const LOADED: [u32; 9] = [
+/// What is answered up to the write of pc: the opening with its Look, the Look of the hart, a run of two elements, and the Look behind it.
+const LOADED: [u32; 8] = [
     0x1071,
     1,
     0x000c_0383,
     ENDED,
     STORED,
     STOPPED,
-    STORED,
     STORED,
     STOPPED,
 ];
@@ -88,7 +87,7 @@ fn a_link_that_fails_ends_the_session(rt: HostRuntime) -> Result<(), Fail> {
 #[test]
 fn a_hart_that_runs_behind_the_elements_keeps_its_pc(rt: HostRuntime) -> Result<(), Fail> {
     let mut words = LOADED;
-    words[8] = RUNNING;
+    words[7] = RUNNING;
     check_answered(
         &rt,
         rt.alloc(),
@@ -100,9 +99,9 @@ fn a_hart_that_runs_behind_the_elements_keeps_its_pc(rt: HostRuntime) -> Result<
 
 #[test]
 fn a_refused_pc_is_said(rt: HostRuntime) -> Result<(), Fail> {
-    let mut words = [0; 10];
-    words[..9].copy_from_slice(&LOADED);
-    words[9] = REFUSED;
+    let mut words = [0; 9];
+    words[..8].copy_from_slice(&LOADED);
+    words[8] = REFUSED;
     check_answered(
         &rt,
         rt.alloc(),

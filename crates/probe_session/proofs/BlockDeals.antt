@@ -1,6 +1,8 @@
 -- Blocks of memory over a told chip, as steps of the abstract debugger's plan: an access for each element, one behind another.
-use Rattle.std.proofs.Common.{◌≡◌, ◌≤◌, ◌<◌, ◌+◌, ◌++◌, ℕ, zero, suc, List, [], ◌∷◌, length, Ok, sym, subst, append_assoc}
-use Rattle.std.proofs.Common.{append-nil, arith}
+use Rattle.std.proofs.Common.{◌≡◌, ◌∙◌, ◌≤◌, ◌<◌, ◌+◌, ◌++◌, ℕ, zero, suc, List, [], ◌∷◌, length, Ok, sym, subst, append_assoc}
+use Rattle.std.proofs.Common.{append-nil, arith, replicate, take as first_of}
+use Rattle.std.proofs.Math.Seq.{take-length}
+use Rattle.std.proofs.lemmas.List.{get_or-replicate, length-replicate, take-replicate}
 use Rattle.rv_model.specs.declared.size.Size.{Size}
 use Rattle.rv_model.specs.Board.{Board, Machine}
 use Rattle.rv_model.specs.Memory.{after_store, loaded, store_answer}
@@ -16,8 +18,8 @@ use Rattle.abstract_debugger.specs.Stands.{Deals, Origin, Target}
 use Rattle.abstract_debugger.specs.Turns.{after_turns}
 use Rattle.abstract_debugger.specs.Ways.{Way}
 use Rattle.abstract_debugger.proofs.DealsLemmas.{deals_put, deals_unpathed}
-use Rattle.probe_access.specs.Blocks.{LoadedEach, StoredEach, element_at}
-use Rattle.probe_access.specs.BusBlocks.{BusLoadedEach, BusStoredEach}
+use Rattle.probe_access.specs.Blocks.{LoadedEach, StoredEach, element_at, value_at}
+use Rattle.probe_access.specs.BusBlocks.{BusLoadedEach, BusStoredValues}
 use Rattle.probe_run.specs.Happens.{target_of}
 use Rattle.probe_session.specs.Blocks.{Loads, MayLoad, Says, Stores, loading, storing}
 use Rattle.probe_session.proofs.ToldWrites.{OneAccessed, load_deals, store_deals}
@@ -41,10 +43,10 @@ pub record StoredOnce (size : Size) (address value : ℕ) (s t : Site) : Type 0 
   pub taken : store_answer (after_turns before s.board).memory address size ≡ Ok tt
   pub access : OneAccessed (λ m. after_store m address size value) before behind s t
 
-pub data EachStored (size : Size) (value : ℕ) : ℕ → Site → ℕ → Site → Type 0 where
-  nothing : {address : ℕ} {s : Site} → EachStored size value address s 0 s
-  further : {address count : ℕ} {s t : Site} (m : Site) → StoredOnce size address value s m
-      → EachStored size value (address + count_of size) m count t → EachStored size value address s (suc count) t
+pub data EachStored (size : Size) : ℕ → Site → List ℕ → Site → Type 0 where
+  nothing : {address : ℕ} {s : Site} → EachStored size address s [] s
+  further : {address value : ℕ} {values : List ℕ} {s t : Site} (m : Site) → StoredOnce size address value s m
+      → EachStored size (address + count_of size) m values t → EachStored size address s (value ∷ values) t
 
 -- the address of an element, by that of the first and by that of the second
 first_is : (size : Size) (address : ℕ) → element_at size address 0 ≡ address
@@ -72,29 +74,59 @@ each_bus_loaded size address s t values (BusLoadedEach.further vs value m u each
     (each_bus_loaded size address s m vs each)
     (record { before = one.before; behind = one.behind; value_is = one.value_is; access = record { board = one.access.board; journal = one.access.journal } })
 
-stored_more : (size : Size) (address value n : ℕ) {s m t : Site} → EachStored size value address s n m
-    → StoredOnce size (element_at size address n) value m t → EachStored size value address s (suc n) t
-stored_more size address value zero {m = m} {t = t} EachStored.nothing one =
-    EachStored.further t (subst (λ a. StoredOnce size a value m t) (first_is size address) one) EachStored.nothing
-stored_more size address value (suc n) {m = m} {t = t} (EachStored.further k first rest) one =
-    EachStored.further k first (stored_more size (address + count_of size) value n rest
-    (subst (λ a. StoredOnce size a value m t) (later_is size address n) one))
+-- one more of these values
+stored_more : (size : Size) (address : ℕ) (values : List ℕ) (n : ℕ) {s m t : Site} → n < length values → EachStored size address s (first_of n values) m
+    → StoredOnce size (element_at size address n) (value_at values n) m t → EachStored size address s (first_of (suc n) values) t
+stored_more size address [] n below each one = absurd (omega (arith, below))
+stored_more size address (v ∷ values) zero {m = m} {t = t} below EachStored.nothing one =
+    EachStored.further t (subst (λ a. StoredOnce size a v m t) (first_is size address) one) EachStored.nothing
+stored_more size address (v ∷ values) (suc n) {m = m} {t = t} below (EachStored.further k first rest) one =
+    EachStored.further k first (stored_more size (address + count_of size) values n (omega (arith, below)) rest
+    (subst (λ a. StoredOnce size a (value_at values n) m t) (later_is size address n) one))
 
 next_is : (n : ℕ) → suc n ≡ n + 1
 next_is n = omega arith
 
-pub each_stored : (size : Size) (address value : ℕ) (s t : Site) (n : ℕ) → StoredEach size address value s n t → EachStored size value address s n t
-each_stored size address value s t n StoredEach.nothing = EachStored.nothing
-each_stored size address value s t n (StoredEach.further k m u each one) = subst (λ x. EachStored size value address s x u) (next_is k)
-    (stored_more size address value k (each_stored size address value s m k each)
+-- by the bus the first so many
+pub each_bus_stored : (size : Size) (address : ℕ) (values : List ℕ) (s t : Site) (n : ℕ) → n ≤ length values → BusStoredValues size address values s n t
+    → EachStored size address s (first_of n values) t
+each_bus_stored size address values s t n few BusStoredValues.nothing = EachStored.nothing
+each_bus_stored size address values s t n few (BusStoredValues.further k m u each one) =
+    subst (λ x. EachStored size address s (first_of x values) u) (next_is k)
+    (stored_more size address values k (omega (arith, few)) (each_bus_stored size address values s m k (omega (arith, few)) each)
     (record { before = one.before; behind = one.behind; taken = one.taken; access = record { board = one.access.board; journal = one.access.journal } }))
 
-pub each_bus_stored : (size : Size) (address value : ℕ) (s t : Site) (n : ℕ) → BusStoredEach size address value s n t
-    → EachStored size value address s n t
-each_bus_stored size address value s t n BusStoredEach.nothing = EachStored.nothing
-each_bus_stored size address value s t n (BusStoredEach.further k m u each one) = subst (λ x. EachStored size value address s x u) (next_is k)
-    (stored_more size address value k (each_bus_stored size address value s m k each)
-    (record { before = one.before; behind = one.behind; taken = one.taken; access = record { board = one.access.board; journal = one.access.journal } }))
+copy_at : (count value n : ℕ) → n < count → value ≡ value_at (replicate count value) n
+copy_at count value n below = sym (get_or-replicate count n value 0 below)
+
+-- and by the hart, where they are one value
+each_stored : (size : Size) (address value count : ℕ) (s t : Site) (n : ℕ) → n ≤ count → StoredEach size address value s n t
+    → EachStored size address s (first_of n (replicate count value)) t
+each_stored size address value count s t n few StoredEach.nothing = EachStored.nothing
+each_stored size address value count s t n few (StoredEach.further k m u each one) =
+    subst (λ x. EachStored size address s (first_of x (replicate count value)) u) (next_is k)
+    (stored_more size address (replicate count value) k
+    (subst (λ l. k < l) (sym (length-replicate {A = ℕ} count value)) (omega (arith, few)))
+    (each_stored size address value count s m k (omega (arith, few)) each)
+    (subst (λ v. StoredOnce size (element_at size address k) v m u) (copy_at count value k (omega (arith, few)))
+    (record { before = one.before; behind = one.behind; taken = one.taken; access = record { board = one.access.board; journal = one.access.journal } })))
+
+-- all of them
+pub all_bus_stored : (size : Size) (address : ℕ) (values : List ℕ) (s t : Site) → BusStoredValues size address values s (length values) t
+    → EachStored size address s values t
+all_bus_stored size address values s t each =
+    subst (λ vs. EachStored size address s vs t) (take-length values) (each_bus_stored size address values s t (length values) (omega arith) each)
+
+pub copies_stored : (size : Size) (address value count : ℕ) (values : List ℕ) (s t : Site) (n : ℕ) → values ≡ replicate count value → n ≤ count
+    → StoredEach size address value s n t → EachStored size address s (first_of n values) t
+copies_stored size address value count values s t n is few each =
+    subst (λ vs. EachStored size address s (first_of n vs) t) (sym is) (each_stored size address value count s t n few each)
+
+pub all_copies_stored : (size : Size) (address value count : ℕ) (values : List ℕ) (s t : Site) → values ≡ replicate count value
+    → StoredEach size address value s count t → EachStored size address s values t
+all_copies_stored size address value count values s t is each =
+    subst (λ vs. EachStored size address s vs t) (take-replicate count count value (omega arith) ∙ sym is)
+    (each_stored size address value count s t count (omega arith) each)
 
 -- ---- along the plan
 
@@ -133,13 +165,13 @@ loads_deals path size m h way o {address} {q = q} (value ∷ values) lines s t
     (loads_deals path size m h way o {address = address + count_of size} values (lines ++ said) k t rest each
     (says_deals m h way o lines (target_of k) says (load_once path size address value m h way o faulted read lines s k one d)))
 
-pub stores_deals : (path : Path) (size : Size) (value : ℕ) (m : Machine) (h : ℕ) (way : Way) (o : Origin) {address : ℕ} {p q : Plan} (count : ℕ)
-    (lines : List Line) (s t : Site) → Stores path size value address count p q → EachStored size value address s count t
+pub stores_deals : (path : Path) (size : Size) (m : Machine) (h : ℕ) (way : Way) (o : Origin) {address : ℕ} {p q : Plan} (values : List ℕ)
+    (lines : List Line) (s t : Site) → Stores path size address values p q → EachStored size address s values t
     → Deals m h way o p lines (target_of s) → Deals m h way o q lines (target_of t)
-stores_deals path size value m h way o zero lines s t Stores.nothing EachStored.nothing d = d
-stores_deals path size value m h way o {address} (suc count) lines s t (Stores.further faulted next rest)
+stores_deals path size m h way o [] lines s t Stores.nothing EachStored.nothing d = d
+stores_deals path size m h way o {address} (value ∷ values) lines s t (Stores.further faulted next rest)
     (EachStored.further k one each) d =
-    stores_deals path size value m h way o {address = address + count_of size} count lines k t rest each
+    stores_deals path size m h way o {address = address + count_of size} values lines k t rest each
     (store_once path size address value m h way o faulted next lines s k one d)
 
 -- ---- some of them
@@ -204,23 +236,23 @@ loads_to_access path size m h way o {address} (suc count) (value ∷ values) lin
     (loads_to_access path size m h way o {address = address + count_of size} count values (lines ++ said value) k t (may value) each (omega (arith, few))
     (says_deals m h way o lines (target_of k) (says value) (load_once path size address value m h way o faulted read lines s k one d)))
 
-pub stores_partly : (path : Path) (size : Size) (value : ℕ) (m : Machine) (h : ℕ) (way : Way) (o : Origin) {address : ℕ} {p q : Plan} (count done : ℕ)
-    (lines : List Line) (s t : Site) → Stores path size value address count p q → EachStored size value address s done t → done ≤ count
+pub stores_partly : (path : Path) (size : Size) (m : Machine) (h : ℕ) (way : Way) (o : Origin) {address : ℕ} (values : List ℕ) (done : ℕ) {p q : Plan}
+    (lines : List Line) (s t : Site) → Stores path size address values p q → EachStored size address s (first_of done values) t → done ≤ length values
     → Deals m h way o p lines (target_of s) → Partway m h way o lines (target_of t)
-stores_partly path size value m h way o {p = p} count zero lines s t stores EachStored.nothing few d = partly_here m h way o p lines (target_of t) d
-stores_partly path size value m h way o zero (suc done) lines s t stores each few d = absurd (omega (arith, few))
-stores_partly path size value m h way o {address} (suc count) (suc done) lines s t (Stores.further faulted next rest)
+stores_partly path size m h way o values zero lines s t stores EachStored.nothing few d = partly_here m h way o _ lines (target_of t) d
+stores_partly path size m h way o [] (suc done) lines s t stores each few d = absurd (omega (arith, few))
+stores_partly path size m h way o {address} (value ∷ values) (suc done) lines s t (Stores.further faulted next rest)
     (EachStored.further k one each) few d =
-    stores_partly path size value m h way o {address = address + count_of size} count done lines k t rest each (omega (arith, few))
+    stores_partly path size m h way o {address = address + count_of size} values done lines k t rest each (omega (arith, few))
     (store_once path size address value m h way o faulted next lines s k one d)
 
-pub stores_to_access : (path : Path) (size : Size) (value : ℕ) (m : Machine) (h : ℕ) (way : Way) (o : Origin) {address : ℕ} {p q : Plan} (count done : ℕ)
-    (lines : List Line) (s t : Site) → Stores path size value address count p q → EachStored size value address s done t → done < count
-    → Deals m h way o p lines (target_of s) → AtAccess m h way o lines (target_of t)
-stores_to_access path size value m h way o zero done lines s t stores each few d = absurd (omega (arith, few))
-stores_to_access path size value m h way o (suc count) zero lines s t (Stores.further faulted next rest) EachStored.nothing few d =
+pub stores_to_access : (path : Path) (size : Size) (m : Machine) (h : ℕ) (way : Way) (o : Origin) {address : ℕ} {p q : Plan} (values : List ℕ)
+    (done : ℕ) (lines : List Line) (s t : Site) → Stores path size address values p q → EachStored size address s (first_of done values) t
+    → done < length values → Deals m h way o p lines (target_of s) → AtAccess m h way o lines (target_of t)
+stores_to_access path size m h way o [] done lines s t stores each few d = absurd (omega (arith, few))
+stores_to_access path size m h way o (value ∷ values) zero lines s t (Stores.further faulted next rest) EachStored.nothing few d =
     access_here m h way o path _ lines (target_of t) d
-stores_to_access path size value m h way o {address} (suc count) (suc done) lines s t (Stores.further faulted next rest)
+stores_to_access path size m h way o {address} (value ∷ values) (suc done) lines s t (Stores.further faulted next rest)
     (EachStored.further k one each) few d =
-    stores_to_access path size value m h way o {address = address + count_of size} count done lines k t rest each (omega (arith, few))
+    stores_to_access path size m h way o {address = address + count_of size} values done lines k t rest each (omega (arith, few))
     (store_once path size address value m h way o faulted next lines s k one d)

@@ -1,5 +1,6 @@
 -- Calls on blocks of memory that fail, over a told chip: the elements so far lead along the plan, and the lines that it says of them were not written.
-use Rattle.std.proofs.Common.{◌≡◌, ◌∙◌, ◌++◌, ℕ, List, ◌∷◌, Option, None, append_assoc}
+use Rattle.std.proofs.Common.{◌≡◌, ◌∙◌, ◌≤◌, ◌++◌, ℕ, List, ◌∷◌, Option, None, length, replicate, take, append_assoc, refl, ap, arith}
+use Rattle.std.proofs.lemmas.List.{length-replicate}
 use Rattle.rv_model.specs.declared.size.Size.{Size}
 use Rattle.rv_model.specs.Board.{Machine}
 use Rattle.debug_model.specs.declared.command.Path.{Path}
@@ -15,8 +16,8 @@ use Rattle.abstract_debugger.specs.Turns.{turns}
 use Rattle.abstract_debugger.specs.Ways.{Way}
 use Rattle.probe_access.specs.declared.fault.AccessFault.{AccessFault}
 use Rattle.probe_access.specs.declared.fault.AccessFault.TheVariants as fault
-use Rattle.probe_access.specs.Blocks.{BlockLoadLeft, BlockStoreLeft, LoadedEach, StoredEach, element_at}
-use Rattle.probe_access.specs.BusBlocks.{BusBlockLoadLeft, BusBlockStoreLeft, BusLoadedEach, BusStoredEach}
+use Rattle.probe_access.specs.Blocks.{BlockLoadLeft, BlockStoreLeft, LoadedEach, StoredEach, element_at, value_at}
+use Rattle.probe_access.specs.BusBlocks.{BusBlockLoadLeft, BusLoadedEach, BusStoredValues, BusValuesStoreLeft}
 use Rattle.probe_access.specs.Cuts.{BusBefore, BusBehind, LeftAside, LeftBehind, Leaves, LoadLeaves, Scratched, StoreLeaves}
 use Rattle.probe_run.specs.Acts.{Tells}
 use Rattle.probe_run.specs.Happens.{target_of}
@@ -25,7 +26,7 @@ use Rattle.probe_session.specs.BlockCalls.{BlockLoadFell, BlockStoreFell, BusLoa
 use Rattle.probe_session.specs.Blocks.{MayLoad, Stores}
 use Rattle.probe_session.specs.Led.{target_at}
 use Rattle.probe_session.specs.Transcribed.{OnTheWay, Still}
-use Rattle.probe_session.proofs.BlockDeals.{AtAccess, EachLoaded, EachStored, Partway, each_bus_loaded, each_bus_stored, each_loaded, each_stored}
+use Rattle.probe_session.proofs.BlockDeals.{AtAccess, EachLoaded, EachStored, Partway, copies_stored, each_bus_loaded, each_bus_stored, each_loaded}
 use Rattle.probe_session.proofs.BlockDeals.{loads_partly, loads_to_access, stores_partly, stores_to_access}
 use Rattle.probe_session.proofs.BrokeOff.{LeftAs, OfTheLink, OnWay, by_access, is_told, left_still}
 use Rattle.probe_session.proofs.OnTheWay.{point_way, turns_way}
@@ -69,17 +70,19 @@ some_loaded Each Aside Behind path size address count p m h way o lines s t each
     within_way m h way o lines mid t (loads_to_access path size m h way o count values lines s mid may (each values mid loaded) few d) (behind mid rest)
 
 some_stored : (Each : Site → ℕ → Site → Type 0) (Aside : Site → Site → Type 0) (Behind : ℕ → Site → Site → Type 0) (path : Path) (size : Size)
-    (address value count : ℕ) (p to : Plan) (m : Machine) (h : ℕ) (way : Way) (o : Origin) (lines : List Line) (s t : Site)
-    → ((done : ℕ) (u : Site) → Each s done u → EachStored size value address s done u)
+    (address count : ℕ) (values : List ℕ) (p to : Plan) (m : Machine) (h : ℕ) (way : Way) (o : Origin) (lines : List Line) (s t : Site)
+    → length values ≡ count → ((done : ℕ) (u : Site) → done ≤ count → Each s done u → EachStored size address s (take done values) u)
     → ((u : Site) → Aside u t → TurnsTo u t) → ((done : ℕ) (u : Site) → Behind done u t → AccessTo u t)
-    → Stores path size value address count p to → Deals m h way o p lines (target_of s) → SomeStored Each Aside Behind count s t
+    → Stores path size address values p to → Deals m h way o p lines (target_of s) → SomeStored Each Aside Behind count s t
     → OnTheWay o lines t.journal
-some_stored Each Aside Behind path size address value count p to m h way o lines s t each aside behind stores d
+some_stored Each Aside Behind path size address count values p to m h way o lines s t all each aside behind stores d
     (SomeStored.between done mid stored few rest) =
-    between_way m h way o lines mid t (stores_partly path size value m h way o count done lines s mid stores (each done mid stored) few d) (aside mid rest)
-some_stored Each Aside Behind path size address value count p to m h way o lines s t each aside behind stores d
+    between_way m h way o lines mid t
+    (stores_partly path size m h way o values done lines s mid stores (each done mid few stored) (omega (arith, all, few)) d) (aside mid rest)
+some_stored Each Aside Behind path size address count values p to m h way o lines s t all each aside behind stores d
     (SomeStored.within done mid stored few rest) =
-    within_way m h way o lines mid t (stores_to_access path size value m h way o count done lines s mid stores (each done mid stored) few d)
+    within_way m h way o lines mid t
+    (stores_to_access path size m h way o values done lines s mid stores (each done mid (omega (arith, few)) stored) (omega (arith, all, few)) d)
     (behind done mid rest)
 
 -- ---- by the fault: it is one of the link
@@ -111,14 +114,14 @@ bus_load_of_link size address count values old new fault.StillBusy told left = t
 bus_load_of_link size address count values old new (fault.Run why) told left = left
 bus_load_of_link size address count values old new (fault.Odd shown) told left = told left
 
-bus_store_of_link : (size : Size) (address count value : ℕ) (old new : Option Far) (why : AccessFault) → (old ≡ None → ⊥)
-    → BusBlockStoreLeft size address count value old new why → OfTheLink why
-bus_store_of_link size address count value old new (fault.Dmi why) told left = tt
-bus_store_of_link size address count value old new (fault.Memory at) told left = tt
-bus_store_of_link size address count value old new (fault.Register number) told left = told left
-bus_store_of_link size address count value old new fault.StillBusy told left = tt
-bus_store_of_link size address count value old new (fault.Run why) told left = left
-bus_store_of_link size address count value old new (fault.Odd shown) told left = told left
+bus_store_of_link : (size : Size) (address : ℕ) (values : List ℕ) (count : ℕ) (old new : Option Far) (why : AccessFault) → (old ≡ None → ⊥)
+    → BusValuesStoreLeft size address values count old new why → OfTheLink why
+bus_store_of_link size address values count old new (fault.Dmi why) told left = tt
+bus_store_of_link size address values count old new (fault.Memory at) told left = tt
+bus_store_of_link size address values count old new (fault.Register number) told left = told left
+bus_store_of_link size address values count old new fault.StillBusy told left = tt
+bus_store_of_link size address values count old new (fault.Run why) told left = left
+bus_store_of_link size address values count old new (fault.Odd shown) told left = told left
 
 -- ---- the calls
 
@@ -143,25 +146,30 @@ block_load_fell {path} size address count m h way o p lines old_count new_count 
     (site_of x) (site_of y) (λ values u e. each_bus_loaded size address (site_of x) u values e) (λ u e. record { harts = e.harts; journal = e.journal })
     (λ u e. record { before = e.before; behind = e.behind; journal = e.journal }) may d c) l a)
 
-pub block_store_fell : {path : Path} (size : Size) (address value count : ℕ) (m : Machine) (h : ℕ) (way : Way) (o : Origin) (p to : Plan)
-    (lines : List Line) (old_count new_count : ℕ) (old new : Tells) (f : Failure) → Stores path size value address count p to
-    → BlockStoreFell path way h size address value count old_count new_count old new f
+as_many : (values : List ℕ) (value count : ℕ) → values ≡ replicate count value → length values ≡ count
+as_many values value count are = ap length are ∙ length-replicate {A = ℕ} count value
+
+pub block_store_fell : {path : Path} (size : Size) (address : ℕ) (values : List ℕ) (m : Machine) (h : ℕ) (way : Way) (o : Origin) (p to : Plan)
+    (lines : List Line) (old_count new_count : ℕ) (old new : Tells) (f : Failure) → Stores path size address values p to
+    → BlockStoreFell path way h size address values old_count new_count old new f
     → At m h way o p lines (target_at old.far) → Still (LeftAs o lines f) new.far
-block_store_fell {path} size address value count m h way o p to lines old_count new_count old new f stores
-    (BlockStoreFell.by_hart why known at later heard causes told cut is) a =
+block_store_fell {path} size address values m h way o p to lines old_count new_count old new f stores
+    (BlockStoreFell.by_hart why value count are known at later heard causes told cut is) a =
     by_access why f o lines new.far (Leaves (StoresCut size address value count h) old.far new.far) is
     (store_of_link size address count value old.far new.far why (is_told m h way o p lines old.far a) told) cut
     (λ l. left_still (StoresCut size address value count h) m h way o p lines (OnWay o lines) old.far new.far
     (λ x y d c. some_stored (StoredEach size address value) (LeftAside Scratched h)
-    (λ done. LeftBehind Scratched (StoreLeaves size (element_at size address done) value) h) path size address value count p to m h way o lines
-    (site_of x) (site_of y) (λ done u e. each_stored size address value (site_of x) u done e) (λ u e. record { harts = e.harts; journal = e.journal })
+    (λ done. LeftBehind Scratched (StoreLeaves size (element_at size address done) value) h) path size address count values p to m h way o lines
+    (site_of x) (site_of y) (as_many values value count are)
+    (λ done u few e. copies_stored size address value count values (site_of x) u done are few e) (λ u e. record { harts = e.harts; journal = e.journal })
     (λ done u e. record { before = e.before; behind = e.behind; journal = e.journal }) stores d c) l a)
-block_store_fell {path} size address value count m h way o p to lines old_count new_count old new f stores
+block_store_fell {path} size address values m h way o p to lines old_count new_count old new f stores
     (BlockStoreFell.by_bus why at later causes told cut is) a =
-    by_access why f o lines new.far (Leaves (BusStoresCut size address value count) old.far new.far) is
-    (bus_store_of_link size address count value old.far new.far why (is_told m h way o p lines old.far a) told) cut
-    (λ l. left_still (BusStoresCut size address value count) m h way o p lines (OnWay o lines) old.far new.far
-    (λ x y d c. some_stored (BusStoredEach size address value) BusBefore
-    (λ done. BusBehind (StoreLeaves size (element_at size address done) value)) path size address value count p to m h way o lines
-    (site_of x) (site_of y) (λ done u e. each_bus_stored size address value (site_of x) u done e) (λ u e. record { harts = e.harts; journal = e.journal })
+    by_access why f o lines new.far (Leaves (BusStoresCut size address values) old.far new.far) is
+    (bus_store_of_link size address values (length values) old.far new.far why (is_told m h way o p lines old.far a) told) cut
+    (λ l. left_still (BusStoresCut size address values) m h way o p lines (OnWay o lines) old.far new.far
+    (λ x y d c. some_stored (BusStoredValues size address values) BusBefore
+    (λ done. BusBehind (StoreLeaves size (element_at size address done) (value_at values done))) path size address (length values) values p to m h way o
+    lines (site_of x) (site_of y) refl (λ done u few e. each_bus_stored size address values (site_of x) u done few e)
+    (λ u e. record { harts = e.harts; journal = e.journal })
     (λ done u e. record { before = e.before; behind = e.behind; journal = e.journal }) stores d c) l a)

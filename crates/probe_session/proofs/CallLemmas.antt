@@ -1,6 +1,6 @@
 -- Calls on blocks of memory, as a session tells of them: whole ones, refused ones, and those that broke off.
-use Rattle.std.proofs.Common.{◌≡◌, ◌<◌, ◌∙◌, ◌++◌, ℕ, true, false, List, length, map, Option, Some, None, refl, subst, arith, sym}
-use Rattle.std.proofs.lemmas.List.{length-map}
+use Rattle.std.proofs.Common.{◌≡◌, ◌<◌, ◌∙◌, ◌++◌, ℕ, true, false, List, length, map, replicate, Option, Some, None, refl, subst, arith, sym}
+use Rattle.std.proofs.lemmas.List.{length-map, length-replicate}
 use Rattle.rv_model.specs.declared.size.Size.{Size}
 use Rattle.debug_model.specs.declared.command.Path.TheVariants.{Progbuf, Bus}
 use Rattle.debug_model.specs.Module.{Site}
@@ -12,19 +12,18 @@ use Rattle.probe_access.specs.declared.fault.AccessFault.TheVariants as fault
 use Rattle.probe_access.specs.Accesses.{IfMemory}
 use Rattle.probe_access.specs.BlockCuts.{BlockLoadCut, BlockStoreCut}
 use Rattle.probe_access.specs.BlockRuns.{Fetched}
-use Rattle.probe_access.specs.Blocks.{BlockLoadLeft, BlockLoadedAt, BlockStoreLeft, element_at}
-use Rattle.probe_access.specs.BusBlockRuns.{BusLoads, BusLoadsRefused, BusStoresRefused}
-use Rattle.probe_access.specs.BusBlocks.{BusBlockLoadCut, BusBlockLoadLeft, BusBlockLoadedAt, BusBlockStoreCut, BusBlockStoreLeft}
+use Rattle.probe_access.specs.Blocks.{BlockLoadLeft, BlockLoadedAt, BlockStoreLeft}
+use Rattle.probe_access.specs.BusBlockRuns.{BusLoads, BusLoadsRefused}
+use Rattle.probe_access.specs.BusBlocks.{BusBlockLoadCut, BusBlockLoadLeft, BusBlockLoadedAt}
 use Rattle.probe_access.specs.BusRuns.{cut_to}
-use Rattle.probe_access.specs.Cuts.{AccessLeftOff, BusLeftOff, IfCut, Leaves, LoadLeaves, StoreLeaves}
+use Rattle.probe_access.specs.Cuts.{AccessLeftOff, BusLeftOff, IfCut, Leaves, LoadLeaves}
 use Rattle.probe_access.specs.ReadRuns.{is_wide}
 use Rattle.probe_access.specs.ElementRuns.{LoadRuns, LoadRunsFailed, StoreRunsFailed}
 use Rattle.probe_access.proofs.CutSites.{if_cut}
 use Rattle.probe_run.specs.Acts.{Tells}
 use Rattle.probe_run.specs.Told.{Serving}
 use Rattle.probe_session.specs.Answers.{BlockLoadedAs, RefusedStore}
-use Rattle.probe_session.specs.BlockCalls.{BlockLoaded, BlockLoadedNone, BlockStoredNone, BusLoadsCut, BusStoresCut, LoadsCut, SomeLoaded, SomeStored}
-use Rattle.probe_session.specs.BlockCalls.{StoresCut}
+use Rattle.probe_session.specs.BlockCalls.{BlockLoaded, BlockLoadedNone, BlockStoredNone, BusLoadsCut, LoadsCut, SomeLoaded, SomeStored, StoresCut}
 use Rattle.probe_session.proofs.CutLemmas.{bus_loaded_cut, bus_refused_cut, loaded_cut, refused_cut}
 
 as_many : (size : Size) (held : List ℕ) → length (map (cut_to size) held) ≡ length held
@@ -77,30 +76,17 @@ bus_block_loaded_none size address count at held old new e ready is left refused
     )
 
 pub block_stored_none : (h : ℕ) (size : Size) (address value count at old_count new_count : ℕ) (old new : Tells) (e : AccessFault) → Serving h old.far
-    → e ≡ fault.Memory at
-    → BlockStoreLeft size address count value old.far new.far e
-    → StoreRunsFailed size address value count old_count new_count old new e → RefusedStore Progbuf Still h size address value count at old new
+    → e ≡ fault.Memory at → BlockStoreLeft size address count value old.far new.far e
+    → StoreRunsFailed size address value count old_count new_count old new e → RefusedStore Progbuf Still h size address (replicate count value) at old new
 block_stored_none h size address value count at old_count new_count old new e serving is left failed =
     let l = subst (BlockStoreLeft size address count value old.far new.far) is left in
-    let h = subst (λ x. StoreRunsFailed size address value count old_count new_count old new x) is failed in
+    let f = subst (λ x. StoreRunsFailed size address value count old_count new_count old new x) is failed in
     record {
       done = l.0;
-      below = l.1;
+      below = subst (λ n. l.0 < n) (sym (length-replicate {A = ℕ} count value)) l.1;
       at_is = l.2;
-      none = BlockStoredNone.by_hart count old_count new_count tt serving
-          (subst (λ a. StoreRunsFailed size address value count old_count new_count old new (fault.Memory a)) l.2 h) l.3;
-    }
-
-pub bus_block_stored_none : (size : Size) (address value count at : ℕ) (old new : Tells) (e : AccessFault) → e ≡ fault.Memory at
-    → BusBlockStoreLeft size address count value old.far new.far e
-    → IfMemory (BusStoresRefused size address value count old new) e → RefusedStore Bus Idle 0 size address value count at old new
-bus_block_stored_none size address value count at old new e is left refused =
-    let l = subst (BusBlockStoreLeft size address count value old.far new.far) is left in
-    record {
-      done = l.0;
-      below = l.1;
-      at_is = l.2;
-      none = BlockStoredNone.by_bus count (subst (IfMemory (BusStoresRefused size address value count old new)) is refused) l.3;
+      none = BlockStoredNone.by_hart value count old_count new_count refl tt serving
+          (subst (λ a. StoreRunsFailed size address value count old_count new_count old new (fault.Memory a)) l.2 f) l.3;
     }
 
 -- ---- those that broke off
@@ -154,19 +140,3 @@ bus_loads_cut size address count held old new e cut =
     if_cut (Leaves (BusBlockLoadCut size address count held) old new) (Leaves (BusLoadsCut size address count) old new) e
     (leaves_as (BusBlockLoadCut size address count held) (BusLoadsCut size address count) old new
     (λ s t c. bus_loads_left size address count held s t c)) cut
-
-bus_stores_left : (size : Size) (address value count : ℕ) (s t : Site) → BusBlockStoreCut size address value count s t
-    → BusStoresCut size address value count s t
-bus_stores_left size address value count s t c = by_access c.left
-  where
-    by_access : BusLeftOff (StoreLeaves size (element_at size address c.done) value) c.mid t → BusStoresCut size address value count s t
-    by_access (BusLeftOff.before_it a) = SomeStored.between c.done c.mid c.each (omega (arith, c.below)) a
-    by_access (BusLeftOff.behind_it a) = SomeStored.within c.done c.mid c.each c.below a
-
-pub bus_stores_cut : (size : Size) (address value count : ℕ) (old new : Option Far) (e : AccessFault)
-    → IfCut (Leaves (BusBlockStoreCut size address value count) old new) e
-    → IfCut (Leaves (BusStoresCut size address value count) old new) e
-bus_stores_cut size address value count old new e cut =
-    if_cut (Leaves (BusBlockStoreCut size address value count) old new) (Leaves (BusStoresCut size address value count) old new) e
-    (leaves_as (BusBlockStoreCut size address value count) (BusStoresCut size address value count) old new
-    (λ s t c. bus_stores_left size address value count s t c)) cut

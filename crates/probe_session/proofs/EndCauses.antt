@@ -110,11 +110,11 @@ load_traced size address count old_count new_count old new f (BlockLoadFell.by_h
 load_traced size address count old_count new_count old new f (BlockLoadFell.by_bus why held at later causes told cut is) =
     record { later = later; cause = of_access why f old_count new_count new.far is (bus_block_caused why old_count new_count old new causes) }
 
-pub store_traced : {path : Path} {way : Way} {h : ℕ} (size : Size) (address value count old_count new_count : ℕ) (old new : Tells) (f : Failure)
-    → BlockStoreFell path way h size address value count old_count new_count old new f → Caused old_count new_count new.far f
-store_traced size address value count old_count new_count old new f (BlockStoreFell.by_hart why known at later heard causes told cut is) =
+pub store_traced : {path : Path} {way : Way} {h : ℕ} (size : Size) (address : ℕ) (values : List ℕ) (old_count new_count : ℕ) (old new : Tells) (f : Failure)
+    → BlockStoreFell path way h size address values old_count new_count old new f → Caused old_count new_count new.far f
+store_traced size address values old_count new_count old new f (BlockStoreFell.by_hart why value count are known at later heard causes told cut is) =
     record { later = later; cause = of_access why f old_count new_count new.far is (block_caused why old_count new_count old new causes) }
-store_traced size address value count old_count new_count old new f (BlockStoreFell.by_bus why at later causes told cut is) =
+store_traced size address values old_count new_count old new f (BlockStoreFell.by_bus why at later causes told cut is) =
     record { later = later; cause = of_access why f old_count new_count new.far is (bus_block_caused why old_count new_count old new causes) }
 
 pub read_traced : (h number old_count new_count : ℕ) (old new : Tells) (f : Failure) → ReadFell h number old_count new_count old new f
@@ -179,8 +179,8 @@ fault_traced p old_count new_count old new f (Fault.stopping r) = record {
 }
 fault_traced p old_count new_count old new f (Fault.loading_block {address = address} {count} {size = size} may r) =
     load_traced size address count old_count new_count old new f r
-fault_traced p old_count new_count old new f (Fault.storing_block {address = address} {value} {count} {size = size} stores r) =
-    store_traced size address value count old_count new_count old new f r
+fault_traced p old_count new_count old new f (Fault.storing_block {address = address} {size = size} {values} stores r) =
+    store_traced size address values old_count new_count old new f r
 
 -- ---- wherever the session broke off
 

@@ -81,5 +81,5 @@ fault_left p old_count new_count old new f (Fault.stopping {h} fell) m o lines a
     stop_fell h m p.hart p.way o p.plan lines old_count new_count old new f fell a
 fault_left p old_count new_count old new f (Fault.loading_block {way = way} {h} {address} {count} {size = size} {p = q} may fell) m o lines a =
     block_load_fell size address count m h way o q lines old_count new_count old new f may fell a
-fault_left p old_count new_count old new f (Fault.storing_block {way = way} {h} {address} {value} {count} {size = size} {p = q} {to} stores fell) m o lines a =
-    block_store_fell size address value count m h way o q to lines old_count new_count old new f stores fell a
+fault_left p old_count new_count old new f (Fault.storing_block {way = way} {h} {address} {size = size} {values} {p = q} {to} stores fell) m o lines a =
+    block_store_fell size address values m h way o q to lines old_count new_count old new f stores fell a

@@ -39,8 +39,7 @@ use Rattle.probe_session.specs.Goes.Goes.{start, step}
 use Rattle.probe_session.specs.Led.{DealsAt, GoesLead, Leads, target_at}
 use Rattle.probe_session.specs.Places.{Place, ready}
 use Rattle.probe_session.specs.Steps.{Step, behind_look, behind_step, lines_of_view, trigger_cause, with_ebreakm}
-use Rattle.probe_session.proofs.BlockSteps.{element_stored_none_at}
-use Rattle.probe_session.proofs.BlockSteps.{block_loaded_at, block_loaded_none_at, block_stored_at, block_stored_none_at, element_stored_at}
+use Rattle.probe_session.proofs.BlockSteps.{block_loaded_at, block_loaded_none_at, block_stored_at, block_stored_none_at}
 use Rattle.probe_session.proofs.Tolds.{at_far, halt_deals, look_deals, other_found_deals, over_deals, resume_deals, step_found_deals}
 use Rattle.probe_session.proofs.Tolds.{stop_deals, stop_trigger_deals, told_case, went_by}
 use Rattle.probe_session.proofs.ToldWrites.{armed_deals, ebreak_deals, freed_deals, full_deals, hits_deals}
@@ -262,14 +261,11 @@ step_leads from to old new said (Step.loads_block {way = way} {h} {address} {siz
     block_loaded_at m h way size address o p q values s lines old new loads l a
 step_leads from to old new said (Step.loads_block_none {way = way} {h} {address} {size} {values} {said = s} {from = p} {faulted} read loads l) m o lines a =
     block_loaded_none_at m h way size address o p faulted read values s lines old new loads l a
-step_leads from to old new said (Step.stores_block {way = way} {h} {address} {value} {count} {size} {from = p} {to = q} stores l) m o lines a =
-    none_said m o to lines new.far (block_stored_at m h way size address value count o p q lines old new stores l a)
-step_leads from to old new said (Step.stores_block_none {way = way} {h} {address} {value} {done} {size} {from = p} {faulted} stored stores l) m o lines a =
-    none_said m o to lines new.far (block_stored_none_at m h way size address value done o p faulted stored lines old new stores l a)
-step_leads from to old new said (Step.stores_element {way} {h} {address} {value} {size} faulted stored e) m o lines a =
-    none_said m o to lines new.far (element_stored_at m h way size address value o faulted stored lines old new e a)
-step_leads from to old new said (Step.stores_element_none {way} {h} {address} {value} {size} faulted stored e) m o lines a =
-    none_said m o to lines new.far (element_stored_none_at m h way size address value o faulted stored lines old new e a)
+step_leads from to old new said (Step.stores_block {way = way} {h} {address} {size} {values} {from = p} {to = q} stores l) m o lines a =
+    none_said m o to lines new.far (block_stored_at m h way size address values o p q lines old new stores l a)
+step_leads from to old new said (Step.stores_block_none {way = way} {h} {address} {done} {size} {values} {from = p} {faulted} stored below stores l) m o
+    lines a =
+    none_said m o to lines new.far (block_stored_none_at m h way size address values done o p faulted stored lines old new below stores l a)
 
 walked : (from : Place) (old : Tells) (said : List Line) (to : Place) (new : Tells) → Goes from old said to new → Leads from old said to new
 walked from old said to new start m o lines a = none_said m o from lines old.far a

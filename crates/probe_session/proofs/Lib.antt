@@ -4,6 +4,7 @@ pub mod Knowing
 pub mod Conversions
 pub mod WentLemmas
 pub mod CallLemmas
+pub mod ValueCalls
 pub mod CutLemmas
 pub mod SeenLemmas
 pub mod HartLines

@@ -1,5 +1,6 @@
 -- The way to memory, and `write`: a block of stores.
-use Rattle.std.proofs.Common.{◌≡◌, ◌≤◌, ◌+◌, ◌-◌, ℕ, zero, suc, Bool, true, false, [], refl, sym, ap, subst, arith, if◌then◌else◌}
+use Rattle.std.proofs.Common.{◌≡◌, ◌≤◌, ◌<◌, ◌+◌, ◌-◌, ℕ, zero, suc, Bool, true, false, [], replicate, take, refl, sym, ap, subst, arith, if◌then◌else◌}
+use Rattle.std.proofs.lemmas.List.{get_or-replicate, length-replicate, take-replicate}
 use Rattle.rv_model.specs.declared.size.Size.{Size}
 use Rattle.rv_model.specs.Memory.{is_aligned}
 use Rattle.rv_model.specs.Size.{count_of}
@@ -10,7 +11,7 @@ use Rattle.abstract_debugger.specs.Debugger.{State, at_aligned, at_halted, at_pa
 use Rattle.abstract_debugger.specs.Lines.{Line}
 use Rattle.abstract_debugger.specs.Plan.{Plan}
 use Rattle.abstract_debugger.specs.Plan.Plan.{say}
-use Rattle.probe_access.specs.Blocks.{element_at}
+use Rattle.probe_access.specs.Blocks.{element_at, value_at}
 use Rattle.probe_run.specs.Acts.{Tells}
 use Rattle.probe_run.specs.declared.hart.Halted.{Halted}
 use Rattle.probe_session.specs.declared.fault.Failure.{Failure}
@@ -78,16 +79,16 @@ first_address size a = omega arith
 
 -- the elements of a block lead along its plan
 writing_stores : (path : Path) (n : ℕ) (size : Size) (a v : ℕ) (next end : Plan) (done left : ℕ) → n ≡ done + left
-    → Stores path size v a done (writing path n size a v next end) (writing path left size (element_at size a done) v next end)
+    → Stores path size a (replicate done v) (writing path n size a v next end) (writing path left size (element_at size a done) v next end)
 unfolding writing
 writing_stores path n size a v next end zero left is =
     let e : n ≡ left = omega (arith, is) in
-    subst (λ m. Stores path size v a 0 (writing path m size a v next end) (writing path left size (element_at size a 0) v next end)) (sym e)
-    (subst (λ b. Stores path size v a 0 (writing path left size a v next end) (writing path left size b v next end)) (first_address size a)
+    subst (λ m. Stores path size a [] (writing path m size a v next end) (writing path left size (element_at size a 0) v next end)) (sym e)
+    (subst (λ b. Stores path size a [] (writing path left size a v next end) (writing path left size b v next end)) (first_address size a)
     Stores.nothing)
 writing_stores path zero size a v next end (suc done) left is = absurd (omega arith)
 writing_stores path (suc n) size a v next end (suc done) left is =
-    subst (λ b. Stores path size v a (suc done) (writing path (suc n) size a v next end) (writing path left size b v next end))
+    subst (λ b. Stores path size a (replicate (suc done) v) (writing path (suc n) size a v next end) (writing path left size b v next end))
     (sym (later_is size a done))
     (Stores.further (say (Line.MemoryFault a) next) (writing path n size (a + count_of size) v next end)
     (writing_stores path n size (a + count_of size) v next end done left (omega arith)))
@@ -111,33 +112,44 @@ write_misaligned r size a v count t is =
     went_then (went_one (λ next. same (misaligned_body size a next (writes r size a v count next) is))) (reach_rests r (λ next. say (Line.MemoryFault a) next))
 
 pub wrote_all : (r : Reach) (size : Size) (a v count : ℕ) {t u : Tells} → is_aligned a size ≡ true
-    → BlockStored (path_by r) (way_by r) (hart_by r) size a v count t u
-    → Went (at_write r size a v count) (ends_with (Line.Wrote count)) [] t u
+    → BlockStored (path_by r) (way_by r) (hart_by r) size a (replicate count v) t u → Went (at_write r size a v count) (ends_with (Line.Wrote count)) [] t u
 wrote_all r size a v count is s =
     went_then (at_elements r size a v count is)
     (went_then (went_one (λ next. stores_block (writing_stores (path_by r) count size a v next (done_line count next) count 0 (omega arith)) s))
     (went_then (went_one (λ next. same (writing-zero (path_by r) size (element_at size a count) v next (done_line count next))))
     (reach_rests r (done_line count))))
 
+-- the front of the copies leads to the element that was refused
 refused_at : (path : Path) (size : Size) (a v count done left : ℕ) → count ≡ done + suc left → (next : Plan)
-    → Stores path size v a done (writing path count size a v next (done_line count next)) (storing path size (element_at size a done) v
-    (say (Line.MemoryFault (element_at size a done)) next)
+    → Stores path size a (take done (replicate count v)) (writing path count size a v next (done_line count next))
+    (storing path size (element_at size a done) (value_at (replicate count v) done) (say (Line.MemoryFault (element_at size a done)) next)
     (writing path left size (element_at size a done + count_of size) v next (done_line count next)))
 unfolding writing
-refused_at path size a v count done left all next = writing_stores path count size a v next (done_line count next) done (suc left) all
+refused_at path size a v count done left all next =
+    subst (λ vs. Stores path size a vs (writing path count size a v next (done_line count next))
+    (storing path size (element_at size a done) (value_at (replicate count v) done) (say (Line.MemoryFault (element_at size a done)) next)
+    (writing path left size (element_at size a done + count_of size) v next (done_line count next))))
+    (sym (take-replicate done count v (omega (arith, all))))
+    (subst (λ x. Stores path size a (replicate done v) (writing path count size a v next (done_line count next))
+    (storing path size (element_at size a done) x (say (Line.MemoryFault (element_at size a done)) next)
+    (writing path left size (element_at size a done + count_of size) v next (done_line count next))))
+    (sym (get_or-replicate count done v 0 (omega (arith, all))))
+    (writing_stores path count size a v next (done_line count next) done (suc left) all))
 
 pub write_refused : (r : Reach) (size : Size) (a v count at : ℕ) {t u : Tells} → is_aligned a size ≡ true
-    → RefusedStore (path_by r) (way_by r) (hart_by r) size a v count at t u → Went (at_write r size a v count) (ends_with (Line.MemoryFault at)) [] t u
+    → RefusedStore (path_by r) (way_by r) (hart_by r) size a (replicate count v) at t u
+    → Went (at_write r size a v count) (ends_with (Line.MemoryFault at)) [] t u
 write_refused r size a v count at {t} {u} is s =
     let left : ℕ = count - (s.done + 1) in
-    let all : count ≡ s.done + suc left = omega (arith, s.below) in
+    let below : s.done < count = subst (λ n. s.done < n) (length-replicate {A = ℕ} count v) s.below in
+    let all : count ≡ s.done + suc left = omega (arith, below) in
     subst (λ x. Went (at_write r size a v count) (ends_with (Line.MemoryFault x)) [] t u) (sym s.at_is)
     (went_then (at_elements r size a v count is)
-    (went_then (went_one (λ next. stores_block_none _ (refused_at (path_by r) size a v count s.done left all next) s.none))
+    (went_then (went_one (λ next. stores_block_none _ s.below (refused_at (path_by r) size a v count s.done left all next) s.none))
     (reach_rests r (λ next. say (Line.MemoryFault (element_at size a s.done)) next))))
 
 pub write_falls : (r : Reach) (size : Size) (a v count : ℕ) {old_count new_count : ℕ} {t u : Tells} {f : Failure} → is_aligned a size ≡ true
-    → BlockStoreFell (path_by r) (way_by r) (hart_by r) size a v count old_count new_count t u f
+    → BlockStoreFell (path_by r) (way_by r) (hart_by r) size a (replicate count v) old_count new_count t u f
     → Falls (at_write r size a v count) [] old_count new_count t u f
 write_falls r size a v count is fell =
     falls_then (at_elements r size a v count is) (omega arith)

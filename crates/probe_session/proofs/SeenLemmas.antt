@@ -41,10 +41,10 @@ pub block_refused : {path : Path} {way : Way} {h : ℕ} {size : Size} {address c
     → BlockLoadedAs path way h size address count values t u b → BlockLoadedAs path way h size address count values t u false
 block_refused {path} {way} {h} {size} {address} {count} {values} {b} {t} {u} is p = subst (BlockLoadedAs path way h size address count values t u) is p
 
-pub all_stored : {path : Path} {way : Way} {h : ℕ} {size : Size} {address value count : ℕ} {o : Option ℕ} {t u : Tells} → o ≡ None
-    → BlockStoredAs path way h size address value count t u o → BlockStored path way h size address value count t u
-all_stored {path} {way} {h} {size} {address} {value} {count} {o} {t} {u} is p = subst (BlockStoredAs path way h size address value count t u) is p
+pub all_stored : {path : Path} {way : Way} {h : ℕ} {size : Size} {address : ℕ} {values : List ℕ} {o : Option ℕ} {t u : Tells} → o ≡ None
+    → BlockStoredAs path way h size address values t u o → BlockStored path way h size address values t u
+all_stored {path} {way} {h} {size} {address} {values} {o} {t} {u} is p = subst (BlockStoredAs path way h size address values t u) is p
 
-pub some_stored : {path : Path} {way : Way} {h : ℕ} {size : Size} {address value count at : ℕ} {o : Option ℕ} {t u : Tells} → o ≡ Some at
-    → BlockStoredAs path way h size address value count t u o → RefusedStore path way h size address value count at t u
-some_stored {path} {way} {h} {size} {address} {value} {count} {at} {o} {t} {u} is p = subst (BlockStoredAs path way h size address value count t u) is p
+pub some_stored : {path : Path} {way : Way} {h : ℕ} {size : Size} {address at : ℕ} {values : List ℕ} {o : Option ℕ} {t u : Tells} → o ≡ Some at
+    → BlockStoredAs path way h size address values t u o → RefusedStore path way h size address values at t u
+some_stored {path} {way} {h} {size} {address} {at} {values} {o} {t} {u} is p = subst (BlockStoredAs path way h size address values t u) is p

@@ -1,5 +1,5 @@
 -- The hart that is selected, behind each call of a session that selects none.
-use Rattle.std.proofs.Common.{◌≡◌, ◌∙◌, ℕ, List, Bool, true, false, Option, Some, None, Result, Ok, Err, OnOk, IfOk, refl, sym, ap, subst}
+use Rattle.std.proofs.Common.{◌≡◌, ◌∙◌, ℕ, List, length, Bool, true, false, Option, Some, None, Result, Ok, Err, OnOk, IfOk, refl, sym, ap, subst}
 use Rattle.rv_model.specs.declared.size.Size.{Size}
 use Rattle.debug_model.specs.declared.command.Path.TheVariants.{Progbuf, Bus}
 use Rattle.debug_model.specs.Chip.{Chip}
@@ -11,7 +11,7 @@ use Rattle.debug_model.specs.Told.{Far, IsReady, Selects, site_of}
 use Rattle.abstract_debugger.specs.Ways.Way.{Idle, Still}
 use Rattle.probe_access.specs.Accesses.{OneBusAccess}
 use Rattle.rv_model.specs.Memory.{Memory}
-use Rattle.probe_access.specs.BusBlocks.{BusLoadedEach, BusStoredEach}
+use Rattle.probe_access.specs.BusBlocks.{BusLoadedEach, BusStoredValues}
 use Rattle.probe_run.specs.Acts.{Tells}
 use Rattle.probe_run.specs.Told.{told}
 use Rattle.probe_run.specs.Sites.{TurnsAlone}
@@ -96,10 +96,10 @@ loads_same size address s t values BusLoadedEach.nothing = refl
 loads_same size address s t values (BusLoadedEach.further vs value m u each one) =
     one_access _ one.before one.behind m t one.access ∙ loads_same size address s m vs each
 
-stores_same : (size : Size) (address value : ℕ) (s t : Site) (count : ℕ) → BusStoredEach size address value s count t → SameHart s t
-stores_same size address value s t count BusStoredEach.nothing = refl
-stores_same size address value s t count (BusStoredEach.further n m u each one) =
-    one_access _ one.before one.behind m t one.access ∙ stores_same size address value s m n each
+stores_same : (size : Size) (address : ℕ) (values : List ℕ) (s t : Site) (count : ℕ) → BusStoredValues size address values s count t → SameHart s t
+stores_same size address values s t count BusStoredValues.nothing = refl
+stores_same size address values s t count (BusStoredValues.further n m u each one) =
+    one_access _ one.before one.behind m t one.access ∙ stores_same size address values s m n each
 
 told_stays : (R : Chip → Option Far → Type 0) (old new : Option Far) → ((c : Chip) → R c new → SelectionStays c new) → WhereTold R old new → Stays old new
 told_stays R None new to w = w
@@ -113,14 +113,14 @@ hart_loaded h size address count values old new true (e, BlockLoaded.by_hart hel
 hart_loaded h size address count values old new false (e, BlockLoadedNone.by_hart held n m k is is_known serving runs fetched saw) before behind =
     stays_by h _ old.far new.far (λ c r. record { far = r.far; is = r.is }) saw before behind
 
-hart_stored : (h : ℕ) (size : Size) (address value count : ℕ) (old new : Tells) (refused : Option ℕ)
-    → BlockStoredAs Progbuf Still h size address value count old new refused → Selects h old.far → Selects h new.far → Stays old.far new.far
-hart_stored h size address value count old new None (BlockStored.by_hart is_known serving runs saw) before behind =
+hart_stored : (h : ℕ) (size : Size) (address : ℕ) (values : List ℕ) (old new : Tells) (refused : Option ℕ)
+    → BlockStoredAs Progbuf Still h size address values old new refused → Selects h old.far → Selects h new.far → Stays old.far new.far
+hart_stored h size address values old new None (BlockStored.by_hart value count are is_known serving runs saw) before behind =
     stays_by h _ old.far new.far (λ c r. record { far = r.far; is = r.is }) saw before behind
-hart_stored h size address value count old new (Some at) refused before behind = by_none refused.none
+hart_stored h size address values old new (Some at) refused before behind = by_none refused.none
   where
-    by_none : BlockStoredNone Progbuf Still h size address value refused.done old new → Stays old.far new.far
-    by_none (BlockStoredNone.by_hart n m k is_known serving runs saw) =
+    by_none : BlockStoredNone Progbuf Still h size address values refused.done old new → Stays old.far new.far
+    by_none (BlockStoredNone.by_hart value count n m are is_known serving runs saw) =
         stays_by h _ old.far new.far (λ c r. record { far = r.far; is = r.is }) saw before behind
 
 -- by the bus
@@ -135,19 +135,23 @@ bus_loaded size address count values old new false (e, BlockLoadedNone.by_bus he
       hartsel = one_access _ r.refused.before r.refused.behind r.mid (site_of r.far) r.refused.access ∙ loads_same size address _ r.mid values r.each;
     }) saw
 
-bus_stored : (size : Size) (address value count : ℕ) (old new : Tells) (refused : Option ℕ)
-    → BlockStoredAs Bus Idle 0 size address value count old new refused → Stays old.far new.far
-bus_stored size address value count old new None (BlockStored.by_bus runs saw) =
-    told_stays _ old.far new.far (λ c r. record { far = r.far; is = r.is; hartsel = stores_same size address value _ (site_of r.far) count r.each }) saw
-bus_stored size address value count old new (Some at) refused = by_none refused.done refused.none
+bus_stored : (size : Size) (address : ℕ) (values : List ℕ) (old new : Tells) (refused : Option ℕ)
+    → BlockStoredAs Bus Idle 0 size address values old new refused → Stays old.far new.far
+bus_stored size address values old new None (BlockStored.by_bus runs saw) =
+    told_stays _ old.far new.far (λ c r. record {
+      far = r.far;
+      is = r.is;
+      hartsel = stores_same size address values _ (site_of r.far) (length values) r.each;
+    }) saw
+bus_stored size address values old new (Some at) refused = by_none refused.done refused.none
   where
-    by_none : (done : ℕ) → BlockStoredNone Bus Idle 0 size address value done old new → Stays old.far new.far
-    by_none done (BlockStoredNone.by_bus n runs saw) =
+    by_none : (done : ℕ) → BlockStoredNone Bus Idle 0 size address values done old new → Stays old.far new.far
+    by_none done (BlockStoredNone.by_bus runs saw) =
         told_stays _ old.far new.far (λ c r. record {
           far = r.far;
           is = r.is;
           hartsel = one_access _ r.refused.before r.refused.behind r.mid (site_of r.far) r.refused.access
-              ∙ stores_same size address value _ r.mid done r.each;
+              ∙ stores_same size address values _ r.mid done r.each;
         }) saw
 
 -- as the calls answer
@@ -159,19 +163,19 @@ hart_load_stays h size address count values s t (Ok whole) loaded before keeps =
     hart_loaded h size address count values (told s) (told t) whole loaded before.serving.selects keeps.behind.serving.selects
 hart_load_stays h size address count values s t (Err f) loaded before keeps = tt
 
-pub hart_store_stays : (h : ℕ) (size : Size) (address value count : ℕ) (s t : DmiSeen) (result : Result (Option ℕ) Failure)
-    → IfOk result (BlockStoredAs Progbuf Still h size address value count (told s) (told t)) → AttachedHalted h s
+pub hart_store_stays : (h : ℕ) (size : Size) (address : ℕ) (values : List ℕ) (s t : DmiSeen) (result : Result (Option ℕ) Failure)
+    → IfOk result (BlockStoredAs Progbuf Still h size address values (told s) (told t)) → AttachedHalted h s
     → Goes (λ (_ : Option ℕ). AttachedHalted h) s t result → OnOk result (Stays s.far t.far)
-hart_store_stays h size address value count s t (Ok refused) stored before keeps =
-    hart_stored h size address value count (told s) (told t) refused stored before.serving.selects keeps.behind.serving.selects
-hart_store_stays h size address value count s t (Err f) stored before keeps = tt
+hart_store_stays h size address values s t (Ok refused) stored before keeps =
+    hart_stored h size address values (told s) (told t) refused stored before.serving.selects keeps.behind.serving.selects
+hart_store_stays h size address values s t (Err f) stored before keeps = tt
 
 pub bus_load_stays : (size : Size) (address count : ℕ) (values : List ℕ) (s t : DmiSeen) (result : Result Bool Failure)
     → IfOk result (BlockLoadedAs Bus Idle 0 size address count values (told s) (told t)) → OnOk result (Stays s.far t.far)
 bus_load_stays size address count values s t (Ok whole) loaded = bus_loaded size address count values (told s) (told t) whole loaded
 bus_load_stays size address count values s t (Err f) loaded = tt
 
-pub bus_store_stays : (size : Size) (address value count : ℕ) (s t : DmiSeen) (result : Result (Option ℕ) Failure)
-    → IfOk result (BlockStoredAs Bus Idle 0 size address value count (told s) (told t)) → OnOk result (Stays s.far t.far)
-bus_store_stays size address value count s t (Ok refused) stored = bus_stored size address value count (told s) (told t) refused stored
-bus_store_stays size address value count s t (Err f) stored = tt
+pub bus_store_stays : (size : Size) (address : ℕ) (values : List ℕ) (s t : DmiSeen) (result : Result (Option ℕ) Failure)
+    → IfOk result (BlockStoredAs Bus Idle 0 size address values (told s) (told t)) → OnOk result (Stays s.far t.far)
+bus_store_stays size address values s t (Ok refused) stored = bus_stored size address values (told s) (told t) refused stored
+bus_store_stays size address values s t (Err f) stored = tt

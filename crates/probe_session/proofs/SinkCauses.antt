@@ -62,10 +62,11 @@ pub of_load : {path : Path} {way : Way} {h : ℕ} (size : Size) (address count o
 of_load size address count old_count new_count old new f (BlockLoadFell.by_hart why held known at later heard causes told cut is) = of_access why f is
 of_load size address count old_count new_count old new f (BlockLoadFell.by_bus why held at later causes told cut is) = of_access why f is
 
-pub of_store : {path : Path} {way : Way} {h : ℕ} (size : Size) (address value count old_count new_count : ℕ) (old new : Tells) (f : Failure)
-    → BlockStoreFell path way h size address value count old_count new_count old new f → IsNotSink f
-of_store size address value count old_count new_count old new f (BlockStoreFell.by_hart why known at later heard causes told cut is) = of_access why f is
-of_store size address value count old_count new_count old new f (BlockStoreFell.by_bus why at later causes told cut is) = of_access why f is
+pub of_store : {path : Path} {way : Way} {h : ℕ} (size : Size) (address : ℕ) (values : List ℕ) (old_count new_count : ℕ) (old new : Tells) (f : Failure)
+    → BlockStoreFell path way h size address values old_count new_count old new f → IsNotSink f
+of_store size address values old_count new_count old new f (BlockStoreFell.by_hart why value count are known at later heard causes told cut is) =
+    of_access why f is
+of_store size address values old_count new_count old new f (BlockStoreFell.by_bus why at later causes told cut is) = of_access why f is
 
 pub of_fault : (p : Place) (old_count new_count : ℕ) (old new : Tells) (f : Failure) → Fault p old_count new_count old new f → IsNotSink f
 of_fault p old_count new_count old new f (Fault.idcode r) = of_dmi r.why f r.is
@@ -89,8 +90,8 @@ of_fault p old_count new_count old new f (Fault.behind {count = count} {mid = mi
 of_fault p old_count new_count old new f (Fault.stopping r) = of_access r.why f r.is
 of_fault p old_count new_count old new f (Fault.loading_block {address = address} {count} {size = size} may r) =
     of_load size address count old_count new_count old new f r
-of_fault p old_count new_count old new f (Fault.storing_block {address = address} {value} {count} {size = size} stores r) =
-    of_store size address value count old_count new_count old new f r
+of_fault p old_count new_count old new f (Fault.storing_block {address = address} {size = size} {values} stores r) =
+    of_store size address values old_count new_count old new f r
 
 fault_not_sink : (p : Place) (old_count new_count : ℕ) (old new : Tells) → Fault p old_count new_count old new failure.Sink → ⊥
 fault_not_sink p old_count new_count old new r = of_fault p old_count new_count old new failure.Sink r

@@ -27,16 +27,16 @@ abbrev pub BlockLoadedAs : Path → Way → (h : ℕ) → Size → (address coun
 BlockLoadedAs path way h size address count values old new true = (length values ≡ count) × BlockLoaded path way h size address values old new
 BlockLoadedAs path way h size address count values old new false = (length values < count) × BlockLoadedNone path way h size address values old new
 
--- to all of them, or to those in front of the one at this address
-pub record RefusedStore (path : Path) (way : Way) (h : ℕ) (size : Size) (address value count at : ℕ) (old new : Tells) : Type 0 where
+-- these values were stored to all of a block's elements, or to those in front of the one at this address
+pub record RefusedStore (path : Path) (way : Way) (h : ℕ) (size : Size) (address : ℕ) (values : List ℕ) (at : ℕ) (old new : Tells) : Type 0 where
   pub done : ℕ
-  pub below : done < count
+  pub below : done < length values
   pub at_is : at ≡ element_at size address done
-  pub none : BlockStoredNone path way h size address value done old new
+  pub none : BlockStoredNone path way h size address values done old new
 
-abbrev pub BlockStoredAs : Path → Way → (h : ℕ) → Size → (address value count : ℕ) → (old new : Tells) → Option ℕ → Type 0
-BlockStoredAs path way h size address value count old new None = BlockStored path way h size address value count old new
-BlockStoredAs path way h size address value count old new (Some at) = RefusedStore path way h size address value count at old new
+abbrev pub BlockStoredAs : Path → Way → (h : ℕ) → Size → (address : ℕ) → (values : List ℕ) → (old new : Tells) → Option ℕ → Type 0
+BlockStoredAs path way h size address values old new None = BlockStored path way h size address values old new
+BlockStoredAs path way h size address values old new (Some at) = RefusedStore path way h size address values at old new
 
 abbrev pub TakenAs : (h : ℕ) → SlotUse → (old new : Tells) → Option ℕ → Type 0
 TakenAs h meant old new (Some slot) = SlotTaken h meant slot old new

@@ -1,7 +1,7 @@
 -- One call of the layers below on a block of memory: what was heard of the link, and what happened at a chip that is told.
 -- It is this project's own. The path is the one that the elements were accessed on, and the way and the hart are those of the session's place: by the
 -- program buffer that hart makes the accesses, which must be known to be halted there.
-use Rattle.std.specs.Prelude.{◌≡◌, ◌≤◌, ◌<◌, ℕ, List, length, map}
+use Rattle.std.specs.Prelude.{◌≡◌, ◌≤◌, ◌<◌, ℕ, List, length, map, replicate}
 use Rattle.rv_model.specs.declared.size.Size.{Size}
 use Rattle.debug_model.specs.declared.command.Path.{Path}
 use Rattle.debug_model.specs.declared.command.Path.TheVariants.{Progbuf, Bus}
@@ -11,14 +11,13 @@ use Rattle.debug_model.specs.Told.{IsReady}
 use Rattle.abstract_debugger.specs.Ways.{Way}
 use Rattle.probe_access.specs.declared.fault.AccessFault.{AccessFault}
 use Rattle.probe_access.specs.declared.fault.AccessFault.TheVariants as fault
-use Rattle.probe_access.specs.Accesses.{BusStoreRefused, BusStoredAt}
 use Rattle.probe_access.specs.BlockRuns.{Causes, Fetched}
 use Rattle.probe_access.specs.Blocks.{BlockLoadLeft, BlockLoadRefused, BlockLoadedAt, BlockStoreLeft, BlockStoreRefused, BlockStoredAt, LoadedEach, StoredEach}
-use Rattle.probe_access.specs.Blocks.{element_at}
-use Rattle.probe_access.specs.BusBlockRuns.{BusCauses, BusLoads, BusLoadsRefused, BusStores, BusStoresRefused}
-use Rattle.probe_access.specs.BusBlocks.{BusBlockLoadLeft, BusBlockLoadRefused, BusBlockLoadedAt, BusBlockStoreLeft, BusBlockStoreRefused, BusBlockStoredAt}
-use Rattle.probe_access.specs.BusBlocks.{BusLoadedEach, BusStoredEach}
-use Rattle.probe_access.specs.BusRuns.{BusStoreFailed, BusStored, cut_to}
+use Rattle.probe_access.specs.Blocks.{element_at, value_at}
+use Rattle.probe_access.specs.BusBlockRuns.{BusCauses, BusLoads, BusLoadsRefused, BusValueStores, BusValueStoresRefused}
+use Rattle.probe_access.specs.BusBlocks.{BusBlockLoadLeft, BusBlockLoadRefused, BusBlockLoadedAt, BusLoadedEach, BusStoredValues, BusValueStoreRefused}
+use Rattle.probe_access.specs.BusBlocks.{BusValuesStoreLeft, BusValuesStoredAt}
+use Rattle.probe_access.specs.BusRuns.{cut_to}
 use Rattle.probe_access.specs.Cuts.{BusBefore, BusBehind, IfCut, Leaves, LeftAside, LeftBehind, LoadLeaves, Scratched, StoreLeaves}
 use Rattle.probe_access.specs.ReadRuns.{is_wide}
 use Rattle.probe_access.specs.ElementRuns.{LoadRuns, LoadRunsFailed, StoreRuns, StoreRunsFailed}
@@ -50,33 +49,23 @@ pub data BlockLoadedNone : Path → Way → (h : ℕ) → (size : Size) → (add
       → BusLoadsRefused size address held old new
       → WhereTold (BusBlockLoadRefused size address values) old.far new.far → BlockLoadedNone Bus way h size address values old new
 
--- a value was written to so many elements from an address on
-pub data BlockStored : Path → Way → (h : ℕ) → (size : Size) → (address value count : ℕ) → (old new : Tells) → Type 0 where
-  by_hart : {way : Way} {size : Size} {h address value count : ℕ} {old new : Tells} → IsKnownHalted way → Serving h old.far
-      → StoreRuns size address value old count new
-      → WhereTold (BlockStoredAt size address value count) old.far new.far → BlockStored Progbuf way h size address value count old new
-  by_bus : {way : Way} {size : Size} {h address value count : ℕ} {old new : Tells} → BusStores size address value old count new
-      → WhereTold (BusBlockStoredAt size address value count) old.far new.far → BlockStored Bus way h size address value count old new
+-- these values were written to the elements from an address on; by the program buffer they are one value, so many times
+pub data BlockStored : Path → Way → (h : ℕ) → (size : Size) → (address : ℕ) → (values : List ℕ) → (old new : Tells) → Type 0 where
+  by_hart : {way : Way} {size : Size} {h address : ℕ} {values : List ℕ} {old new : Tells} (value count : ℕ) → values ≡ replicate count value
+      → IsKnownHalted way → Serving h old.far → StoreRuns size address value old count new
+      → WhereTold (BlockStoredAt size address value count) old.far new.far → BlockStored Progbuf way h size address values old new
+  by_bus : {way : Way} {size : Size} {h address : ℕ} {values : List ℕ} {old new : Tells} → BusValueStores size address values old (length values) new
+      → WhereTold (BusValuesStoredAt size address values (length values)) old.far new.far → BlockStored Bus way h size address values old new
 
--- to so many, and the chip refused the next
-pub data BlockStoredNone : Path → Way → (h : ℕ) → (size : Size) → (address value done : ℕ) → (old new : Tells) → Type 0 where
-  by_hart : {way : Way} {size : Size} {h address value done : ℕ} {old new : Tells} (count old_count new_count : ℕ) → IsKnownHalted way → Serving h old.far
+-- so many of them were, and the chip refused the next
+pub data BlockStoredNone : Path → Way → (h : ℕ) → (size : Size) → (address : ℕ) → (values : List ℕ) → (done : ℕ) → (old new : Tells) → Type 0 where
+  by_hart : {way : Way} {size : Size} {h address done : ℕ} {values : List ℕ} {old new : Tells} (value count old_count new_count : ℕ)
+      → values ≡ replicate count value → IsKnownHalted way → Serving h old.far
       → StoreRunsFailed size address value count old_count new_count old new (fault.Memory (element_at size address done))
-      → WhereTold (BlockStoreRefused size address value done) old.far new.far → BlockStoredNone Progbuf way h size address value done old new
-  by_bus : {way : Way} {size : Size} {h address value done : ℕ} {old new : Tells} (count : ℕ) → BusStoresRefused size address value count old new
-      → WhereTold (BusBlockStoreRefused size address value done) old.far new.far → BlockStoredNone Bus way h size address value done old new
-
--- one value was written by the system bus, in a call of its own
-pub record ElementStored (size : Size) (address value : ℕ) (old new : Tells) : Type 0 where
-  pub heard : BusStored size address value old new
-  pub told : WhereTold (BusStoredAt size address value) old.far new.far
-
--- and was refused
-pub record ElementStoredNone (size : Size) (address value : ℕ) (old new : Tells) : Type 0 where
-  pub old_count : ℕ
-  pub new_count : ℕ
-  pub heard : BusStoreFailed size address value old_count new_count old new (fault.Memory address)
-  pub told : WhereTold (BusStoreRefused size address) old.far new.far
+      → WhereTold (BlockStoreRefused size address value done) old.far new.far → BlockStoredNone Progbuf way h size address values done old new
+  by_bus : {way : Way} {size : Size} {h address done : ℕ} {values : List ℕ} {old new : Tells}
+      → BusValueStoresRefused size address values (length values) old new
+      → WhereTold (BusValueStoreRefused size address values done) old.far new.far → BlockStoredNone Bus way h size address values done old new
 
 -- ---- calls that failed
 
@@ -103,9 +92,10 @@ StoresCut size address value count h s t =
 abbrev pub BusLoadsCut : Size → (address count : ℕ) → Site → Site → Type 0
 BusLoadsCut size address count s t = SomeLoaded (BusLoadedEach size address) BusBefore (BusBehind LoadLeaves) count s t
 
-abbrev pub BusStoresCut : Size → (address value count : ℕ) → Site → Site → Type 0
-BusStoresCut size address value count s t =
-    SomeStored (BusStoredEach size address value) BusBefore (λ done. BusBehind (StoreLeaves size (element_at size address done) value)) count s t
+abbrev pub BusStoresCut : Size → (address : ℕ) → (values : List ℕ) → Site → Site → Type 0
+BusStoresCut size address values s t =
+    SomeStored (BusStoredValues size address values) BusBefore
+    (λ done. BusBehind (StoreLeaves size (element_at size address done) (value_at values done))) (length values) s t
 
 pub data BlockLoadFell : Path → Way → (h : ℕ) → (size : Size) → (address count old_count new_count : ℕ) → (old new : Tells) → Failure → Type 0 where
   by_hart : {way : Way} {size : Size} {h address count old_count new_count : ℕ} {old new : Tells} {f : Failure} (why : AccessFault) (held : List ℕ)
@@ -118,13 +108,15 @@ pub data BlockLoadFell : Path → Way → (h : ℕ) → (size : Size) → (addre
       → BusBlockLoadLeft size address count held old.far new.far why → IfCut (Leaves (BusLoadsCut size address count) old.far new.far) why
       → Became why f → BlockLoadFell Bus way h size address count old_count new_count old new f
 
-pub data BlockStoreFell : Path → Way → (h : ℕ) → (size : Size) → (address value count old_count new_count : ℕ) → (old new : Tells) → Failure → Type 0 where
-  by_hart : {way : Way} {size : Size} {h address value count old_count new_count : ℕ} {old new : Tells} {f : Failure} (why : AccessFault)
+pub data BlockStoreFell : Path → Way → (h : ℕ) → (size : Size) → (address : ℕ) → (values : List ℕ) → (old_count new_count : ℕ) → (old new : Tells)
+    → Failure → Type 0 where
+  by_hart : {way : Way} {size : Size} {h address old_count new_count : ℕ} {values : List ℕ} {old new : Tells} {f : Failure} (why : AccessFault)
+      (value count : ℕ) → values ≡ replicate count value
       → IsKnownHalted way → Serving h old.far → old_count ≤ new_count
       → StoreRunsFailed size address value count old_count new_count old new why → Causes old_count new_count old new why
       → BlockStoreLeft size address count value old.far new.far why → IfCut (Leaves (StoresCut size address value count h) old.far new.far) why
-      → Became why f → BlockStoreFell Progbuf way h size address value count old_count new_count old new f
-  by_bus : {way : Way} {size : Size} {h address value count old_count new_count : ℕ} {old new : Tells} {f : Failure} (why : AccessFault)
+      → Became why f → BlockStoreFell Progbuf way h size address values old_count new_count old new f
+  by_bus : {way : Way} {size : Size} {h address old_count new_count : ℕ} {values : List ℕ} {old new : Tells} {f : Failure} (why : AccessFault)
       → IsReady old.far → old_count ≤ new_count → BusCauses old_count new_count old new why
-      → BusBlockStoreLeft size address count value old.far new.far why → IfCut (Leaves (BusStoresCut size address value count) old.far new.far) why
-      → Became why f → BlockStoreFell Bus way h size address value count old_count new_count old new f
+      → BusValuesStoreLeft size address values (length values) old.far new.far why → IfCut (Leaves (BusStoresCut size address values) old.far new.far) why
+      → Became why f → BlockStoreFell Bus way h size address values old_count new_count old new f

@@ -47,8 +47,8 @@ abbrev pub storing : Path → Size → (address value : ℕ) → (faulted stored
 storing path size address value faulted stored =
     access path (λ b. by_store (store_answer b.memory address size) faulted (change (WriteMem address (count_of size) value) stored))
 
--- from the first plan to the second a value is stored to so many elements from an address on, each at one access
-pub data Stores (path : Path) (size : Size) (value : ℕ) : ℕ → ℕ → Plan → Plan → Type 0 where
-  nothing : {address : ℕ} {p : Plan} → Stores path size value address 0 p p
-  further : {address count : ℕ} {p : Plan} (faulted next : Plan) → Stores path size value (address + count_of size) count next p
-      → Stores path size value address (suc count) (storing path size address value faulted next) p
+-- from the first plan to the second these values are stored to the elements from an address on, each at one access
+pub data Stores (path : Path) (size : Size) : ℕ → List ℕ → Plan → Plan → Type 0 where
+  nothing : {address : ℕ} {p : Plan} → Stores path size address [] p p
+  further : {address value : ℕ} {values : List ℕ} {p : Plan} (faulted next : Plan) → Stores path size (address + count_of size) values next p
+      → Stores path size address (value ∷ values) (storing path size address value faulted next) p

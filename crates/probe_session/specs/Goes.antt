@@ -95,8 +95,8 @@ pub data Fault : Place → ℕ → ℕ → Tells → Tells → Failure → Type 
   loading_block : {path : Path} {way : Way} {h address count old_count new_count : ℕ} {size : Size} {p : Plan} {old new : Tells} {f : Failure}
       → MayLoad path size address count p → BlockLoadFell path way h size address count old_count new_count old new f
       → Fault (place way h p) old_count new_count old new f
-  storing_block : {path : Path} {way : Way} {h address value count old_count new_count : ℕ} {size : Size} {p to : Plan} {old new : Tells} {f : Failure}
-      → Stores path size value address count p to → BlockStoreFell path way h size address value count old_count new_count old new f
+  storing_block : {path : Path} {way : Way} {h address old_count new_count : ℕ} {size : Size} {values : List ℕ} {p to : Plan} {old new : Tells}
+      {f : Failure} → Stores path size address values p to → BlockStoreFell path way h size address values old_count new_count old new f
       → Fault (place way h p) old_count new_count old new f
 
 -- it went so far, and there a call failed

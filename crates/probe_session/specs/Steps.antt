@@ -1,14 +1,13 @@
 -- One step of a session along the abstract debugger's plan: a line that is said, something that follows without a call, or an answered call.
 -- A plan goes on by what the call answered, so that a line that a step leads to shows what was answered and nothing else.
 -- It is this project's own.
-use Rattle.std.specs.Prelude.{◌≡◌, ◌≢◌, ℕ, suc, Bool, true, false, List, [], ◌∷◌, length, map, slice_get, if◌then◌else◌}
+use Rattle.std.specs.Prelude.{◌≡◌, ◌≢◌, ◌<◌, ℕ, suc, Bool, true, false, List, [], ◌∷◌, length, map, take, slice_get, if◌then◌else◌}
 use Rattle.std.specs.List.{list_any}
 use Rattle.rv_model.specs.declared.cause.Cause.TheVariants as halted_by
 use Rattle.rv_model.specs.declared.size.Size.{Size}
 use Rattle.rv_model.specs.Cause.{cause_number}
 use Rattle.rv_model.specs.Registers.{csr_read_only, mip_number, pc_number}
 use Rattle.debug_model.specs.declared.command.Path.{Path}
-use Rattle.debug_model.specs.declared.command.Path.TheVariants.{Bus}
 use Rattle.debug_model.specs.Tap.{idcode}
 use Rattle.abstract_debugger.specs.Debugger.{arming, by_state, freeing, going, halted_of, halting, look, one}
 use Rattle.abstract_debugger.specs.Debugger.{register_line, saying, showing_mip, slots_shown_at, stop_line, value_here}
@@ -33,8 +32,8 @@ use Rattle.probe_run.specs.Acts.{Tells}
 use Rattle.probe_session.specs.Calls.{FoundStop, Gave, GaveNone, Got, GotNone, GotPending, HaltMade, HitsForgotten, Identified, IsOfCores, StepFromMade}
 use Rattle.probe_session.specs.Calls.{NoneFree, NotUsed, PendingNone, StepMade, StepOverMade, ResumeMade, LookMade, SlotFreed, SlotTaken, Viewed}
 use Rattle.probe_trig.specs.Stepping.{shows_step}
-use Rattle.probe_access.specs.Blocks.{element_at}
-use Rattle.probe_session.specs.BlockCalls.{BlockLoaded, BlockLoadedNone, BlockStored, BlockStoredNone, ElementStored, ElementStoredNone}
+use Rattle.probe_access.specs.Blocks.{element_at, value_at}
+use Rattle.probe_session.specs.BlockCalls.{BlockLoaded, BlockLoadedNone, BlockStored, BlockStoredNone}
 use Rattle.probe_session.specs.Blocks.{Loads, Stores, loading, storing}
 use Rattle.probe_session.specs.Known.{IsWhole}
 use Rattle.probe_session.specs.Places.{Place, at_say, idle, may_say, place, ready, says_refused, spot, still}
@@ -158,16 +157,11 @@ pub data Step : Place → Tells → List Line → Place → Tells → Type 0 whe
       {old new : Tells} → Loads path size address from values said (loading path size (element_at size address (length values)) faulted read)
       → BlockLoadedNone path way h size address values old new
       → Step (place way h from) old said (place way h faulted) new
-  stores_block : {path : Path} {way : Way} {h address value count : ℕ} {size : Size} {from to : Plan} {old new : Tells}
-      → Stores path size value address count from to → BlockStored path way h size address value count old new
+  stores_block : {path : Path} {way : Way} {h address : ℕ} {size : Size} {values : List ℕ} {from to : Plan} {old new : Tells}
+      → Stores path size address values from to → BlockStored path way h size address values old new
       → Step (place way h from) old [] (place way h to) new
-  stores_block_none : {path : Path} {way : Way} {h address value done : ℕ} {size : Size} {from faulted : Plan} (stored : Plan) {old new : Tells}
-      → Stores path size value address done from (storing path size (element_at size address done) value faulted stored)
-      → BlockStoredNone path way h size address value done old new
+  stores_block_none : {path : Path} {way : Way} {h address done : ℕ} {size : Size} {values : List ℕ} {from faulted : Plan} (stored : Plan)
+      {old new : Tells} → done < length values
+      → Stores path size address (take done values) from (storing path size (element_at size address done) (value_at values done) faulted stored)
+      → BlockStoredNone path way h size address values done old new
       → Step (place way h from) old [] (place way h faulted) new
-  -- one element in a call of its own
-  stores_element : {way : Way} {h address value : ℕ} {size : Size} (faulted stored : Plan) {old new : Tells} → ElementStored size address value old new
-      → Step (place way h (storing Bus size address value faulted stored)) old [] (place way h stored) new
-  stores_element_none : {way : Way} {h address value : ℕ} {size : Size} (faulted stored : Plan) {old new : Tells}
-      → ElementStoredNone size address value old new
-      → Step (place way h (storing Bus size address value faulted stored)) old [] (place way h faulted) new

@@ -1,6 +1,6 @@
 //! Blocks of memory: by a halted hart, or by the system bus.
 
-ghost use Rattle.std.specs.Prelude.{◌≡◌, [], true, map, IfOk, IfErr};
+ghost use Rattle.std.specs.Prelude.{◌≡◌, [], true, map, replicate, IfOk, IfErr};
 ghost use Rattle.debug_model.specs.Command.{IsBlock};
 ghost use Rattle.debug_model.specs.declared.command.Path.TheVariants.{Progbuf, Bus};
 ghost use Rattle.abstract_debugger.specs.Ways.Way.{Idle, Still};
@@ -64,8 +64,10 @@ pub(crate) fn store<D: Dmi>(
     requires serving { AttachedHalted halted.now.number (D.seen link.old) }
     requires aligned { is_aligned address size ≡ true }
     requires block { IsBlock (count_of size) address count }
-    ensures stored { IfOk result (BlockStoredAs Progbuf Still halted.now.number size address value count (told (D.seen link.old)) (told (D.seen link.new))) }
-    ensures fell { IfErr result (Fails (BlockStoreFell Progbuf Still halted.now.number size address value count) (D.seen link.old) (D.seen link.new)) }
+    ensures stored { IfOk result (BlockStoredAs Progbuf Still halted.now.number size address (replicate count value) (told (D.seen link.old))
+        (told (D.seen link.new))) }
+    ensures fell { IfErr result (Fails (BlockStoreFell Progbuf Still halted.now.number size address (replicate count value))
+        (D.seen link.old) (D.seen link.new)) }
     ensures rises { Within (store_rises count) (D.seen link.old) (D.seen link.new) }
     ensures keeps { Goes (λ _. AttachedHalted halted.now.number) (D.seen link.old) (D.seen link.new) result }
 {
@@ -116,8 +118,8 @@ pub(crate) fn bus_store<D: Dmi>(
     requires serving { Attached (D.seen link.old) }
     requires aligned { is_aligned address size ≡ true }
     requires block { IsBlock (count_of size) address count }
-    ensures stored { IfOk result (BlockStoredAs Bus Idle 0 size address value count (told (D.seen link.old)) (told (D.seen link.new))) }
-    ensures fell { IfErr result (Fails (BlockStoreFell Bus Idle 0 size address value count) (D.seen link.old) (D.seen link.new)) }
+    ensures stored { IfOk result (BlockStoredAs Bus Idle 0 size address (replicate count value) (told (D.seen link.old)) (told (D.seen link.new))) }
+    ensures fell { IfErr result (Fails (BlockStoreFell Bus Idle 0 size address (replicate count value)) (D.seen link.old) (D.seen link.new)) }
     ensures rises { Within (bus_store_rises count) (D.seen link.old) (D.seen link.new) }
     ensures keeps { Goes (λ _. Attached) (D.seen link.old) (D.seen link.new) result }
 {

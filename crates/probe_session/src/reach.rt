@@ -1,6 +1,6 @@
 //! The way on which a command reaches memory.
 
-ghost use Rattle.std.specs.Prelude.{◌≡◌, [], true, map, IfOk, IfErr, OnOk};
+ghost use Rattle.std.specs.Prelude.{◌≡◌, [], true, map, replicate, IfOk, IfErr, OnOk};
 ghost use Rattle.debug_model.specs.Command.{IsBlock};
 ghost use Rattle.rv_model.specs.Memory.{is_aligned};
 ghost use Rattle.rv_model.specs.Size.{count_of};
@@ -104,9 +104,9 @@ pub fn store_by<D: Dmi>(
     requires serving { AttachedBy reach.now (D.seen link.old) }
     requires aligned { is_aligned address size ≡ true }
     requires block { IsBlock (count_of size) address count }
-    ensures stored { IfOk result (BlockStoredAs (path_by reach.now) (way_by reach.now) (hart_by reach.now) size address value count
+    ensures stored { IfOk result (BlockStoredAs (path_by reach.now) (way_by reach.now) (hart_by reach.now) size address (replicate count value)
         (told (D.seen link.old)) (told (D.seen link.new))) }
-    ensures fell { IfErr result (Fails (BlockStoreFell (path_by reach.now) (way_by reach.now) (hart_by reach.now) size address value count)
+    ensures fell { IfErr result (Fails (BlockStoreFell (path_by reach.now) (way_by reach.now) (hart_by reach.now) size address (replicate count value))
         (D.seen link.old) (D.seen link.new)) }
     ensures selection { OnOk result (OnChip SelectionStays (D.seen link.old) (D.seen link.new)) }
     ensures rises { Within (store_rises count) (D.seen link.old) (D.seen link.new) }

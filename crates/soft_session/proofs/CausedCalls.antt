@@ -114,11 +114,11 @@ load_fell size address count f old new r =
     of_link f old new (of_load size address count old.fault_count new.fault_count (told old) (told new) f r)
     (load_traced size address count old.fault_count new.fault_count (told old) (told new) f r)
 
-pub store_fell : {path : Path} {way : Way} {h : ℕ} (size : Size) (address value count : ℕ) (f : Failure) (old new : DmiSeen)
-    → Fails (BlockStoreFell path way h size address value count) old new f → LinkCaused old new f
-store_fell size address value count f old new r =
-    of_link f old new (of_store size address value count old.fault_count new.fault_count (told old) (told new) f r)
-    (store_traced size address value count old.fault_count new.fault_count (told old) (told new) f r)
+pub store_fell : {path : Path} {way : Way} {h : ℕ} (size : Size) (address : ℕ) (values : List ℕ) (f : Failure) (old new : DmiSeen)
+    → Fails (BlockStoreFell path way h size address values) old new f → LinkCaused old new f
+store_fell size address values f old new r =
+    of_link f old new (of_store size address values old.fault_count new.fault_count (told old) (told new) f r)
+    (store_traced size address values old.fault_count new.fault_count (told old) (told new) f r)
 
 -- ---- a call on the table of breakpoints, where no fault of memory is its answer
 

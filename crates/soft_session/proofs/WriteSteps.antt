@@ -1,5 +1,5 @@
 -- `write`: an element after another, each with the ebreaks that stand there.
-use Rattle.std.proofs.Common.{◌≡◌, ◌<◌, ◌∙◌, ◌+◌, ◌-◌, ℕ, zero, suc, true, false, List, [], refl, sym, ap, subst, arith}
+use Rattle.std.proofs.Common.{◌≡◌, ◌<◌, ◌∙◌, ◌+◌, ◌-◌, ◌∷◌, ℕ, zero, suc, true, false, List, [], refl, sym, ap, subst, arith}
 use Rattle.std.proofs.Common.{Result, Ok, Err, IfOk, IfErr, OnOk}
 use Rattle.rv_model.specs.declared.size.Size.{Size}
 use Rattle.rv_model.specs.Memory.{is_aligned}
@@ -90,7 +90,7 @@ to_element r size a v count number more next p t s ready holds =
 pub wrote_one : (r : Reach) (size : Size) (a v count number at stored : ℕ) (from p q : Patches) (old mid new : Tells) → number < count
     → at ≡ element_at size a number → IsReady mid.far → WroteSome r size a v count number from p old mid
     → stored ≡ merged p.addresses at (count_of size) v → q.addresses ≡ p.addresses → KeepsWords p q
-    → IsSameTable (written_table at (count_of size) v (table_of p)) (table_of q) → BlockStored (path_by r) (way_by r) (hart_by r) size at stored 1 mid new
+    → IsSameTable (written_table at (count_of size) v (table_of p)) (table_of q) → BlockStored (path_by r) (way_by r) (hart_by r) size at (stored ∷ []) mid new
     → WroteSome r size a v count (number + 1) from q old new
 wrote_one r size a v count number at stored from p q old mid new less at_is ready so merged_is same keeps taken done next t holds left all =
     let o : Onto p (λ u. Leads (at_rest r (to_write size a v count r) next t) old [] (at_elements r size a v count number (suc left) next u) mid) =
@@ -114,8 +114,8 @@ wrote_one r size a v count number at stored from p q old mid new less at_is read
           (place_by r (lower (writing (path_by r) left size x v next (done_line count next)) u)) new) here
           (led_step (place_by r (next_plan r size a v count number left next o.table)) (place_by r after) mid new []
           (Step.stores_block (Stores.further (refused_plan size a number next o.table) after Stores.nothing)
-          (subst (λ w. BlockStored (path_by r) (way_by r) (hart_by r) size b w 1 mid new) word
-          (subst (λ x. BlockStored (path_by r) (way_by r) (hart_by r) size x stored 1 mid new) at_is done))))));
+          (subst (λ w. BlockStored (path_by r) (way_by r) (hart_by r) size b (w ∷ []) mid new) word
+          (subst (λ x. BlockStored (path_by r) (way_by r) (hart_by r) size x (stored ∷ []) mid new) at_is done))))));
     }
 
 -- ---- behind the last
@@ -161,7 +161,7 @@ write_misaligned r size a v count p s is next t holds = record {
 
 refused_one : (r : Reach) (size : Size) (a v count number at stored refused : ℕ) (from p : Patches) (old mid new : Tells) → number < count
     → at ≡ element_at size a number → IsReady mid.far → WroteSome r size a v count number from p old mid
-    → stored ≡ merged p.addresses at (count_of size) v → RefusedStore (path_by r) (way_by r) (hart_by r) size at stored 1 refused mid new
+    → stored ≡ merged p.addresses at (count_of size) v → RefusedStore (path_by r) (way_by r) (hart_by r) size at (stored ∷ []) refused mid new
     → (next : Plan) (t : Table) → Holds from t
     → Onto p (λ u. Leads (at_rest r (to_write size a v count r) next t) old [] (place_by r (say (Line.MemoryFault refused) (lower next u))) new)
 refused_one r size a v count number at stored refused from p old mid new less at_is ready so merged_is none next t holds =
@@ -174,10 +174,10 @@ refused_one r size a v count number at stored refused from p old mid new less at
     merged_is ∙ ap (λ x. merged p.addresses x (count_of size) v) at_is ∙ writes_alike p o.table o.holds b (count_of size) v in
     let first : none.done ≡ 0 = omega (arith, none.below) in
     let there : b ≡ refused = sym (none.at_is ∙ ap (λ k. element_at size at k) first ∙ sym (first_address size at) ∙ at_is) in
-    let unmade : BlockStoredNone (path_by r) (way_by r) (hart_by r) size b (merged o.table.covered b (count_of size) v) 0 mid new =
-    subst (λ k. BlockStoredNone (path_by r) (way_by r) (hart_by r) size b (merged o.table.covered b (count_of size) v) k mid new) first
-    (subst (λ w. BlockStoredNone (path_by r) (way_by r) (hart_by r) size b w none.done mid new) word
-    (subst (λ x. BlockStoredNone (path_by r) (way_by r) (hart_by r) size x stored none.done mid new) at_is none.none)) in
+    let unmade : BlockStoredNone (path_by r) (way_by r) (hart_by r) size b (merged o.table.covered b (count_of size) v ∷ []) 0 mid new =
+    subst (λ k. BlockStoredNone (path_by r) (way_by r) (hart_by r) size b (merged o.table.covered b (count_of size) v ∷ []) k mid new) first
+    (subst (λ w. BlockStoredNone (path_by r) (way_by r) (hart_by r) size b (w ∷ []) none.done mid new) word
+    (subst (λ x. BlockStoredNone (path_by r) (way_by r) (hart_by r) size x (stored ∷ []) none.done mid new) at_is none.none)) in
     let after : Plan = lower (writing (path_by r) more size (b + count_of size) v next (done_line count next)) (written_table b (count_of size) v o.table) in
     record {
       table = o.table;
@@ -190,8 +190,8 @@ refused_one r size a v count number at stored refused from p old mid new less at
           (subst (λ x. Leads (place_by r (next_plan r size a v count number more next o.table)) mid []
           (place_by r (say (Line.MemoryFault x) (lower next o.table))) new) there
           (led_step (place_by r (next_plan r size a v count number more next o.table)) (place_by r (refused_plan size a number next o.table)) mid new []
-          (Step.stores_block_none {value = merged o.table.covered b (count_of size) v} {done = 0} after
-          (subst (λ x. Stores (path_by r) size (merged o.table.covered b (count_of size) v) b 0 (next_plan r size a v count number more next o.table)
+          (Step.stores_block_none {done = 0} {values = merged o.table.covered b (count_of size) v ∷ []} after (omega arith)
+          (subst (λ x. Stores (path_by r) size b [] (next_plan r size a v count number more next o.table)
           (storing (path_by r) size x (merged o.table.covered b (count_of size) v) (refused_plan size a number next o.table) after)) (first_address size b)
           Stores.nothing) unmade))));
     }
@@ -200,7 +200,7 @@ pub write_refused : (r : Reach) (size : Size) (a v count number at stored refuse
     → at ≡ element_at size a number → IsReady mid.far → WroteSome r size a v count number from p old mid
     → stored ≡ merged p.addresses at (count_of size) v → q.addresses ≡ p.addresses → KeepsWords p q
     → IsSameTable (written_table at (count_of size) v (table_of p)) (table_of q)
-    → RefusedStore (path_by r) (way_by r) (hart_by r) size at stored 1 refused mid new
+    → RefusedStore (path_by r) (way_by r) (hart_by r) size at (stored ∷ []) refused mid new
     → meets_some q.addresses refused (count_of size) ≡ false → RestLed r (to_write size a v count r) from q old new (printed.MemoryFault refused)
 write_refused r size a v count number at stored refused from p q old mid new less at_is ready so merged_is same keeps taken none beside next t holds =
     let o : Onto p (λ u. Leads (at_rest r (to_write size a v count r) next t) old [] (place_by r (say (Line.MemoryFault refused) (lower next u))) new) =
@@ -223,7 +223,7 @@ WriteCut r size a v count p old new f =
 -- memory refused a word at which a breakpoint is set
 pub refusal_lost : (r : Reach) (size : Size) (a v count number at stored refused : ℕ) (from p : Patches) (old mid new : Tells) (f : Failure) → number < count
     → at ≡ element_at size a number → IsReady mid.far → WroteSome r size a v count number from p old mid
-    → stored ≡ merged p.addresses at (count_of size) v → RefusedStore (path_by r) (way_by r) (hart_by r) size at stored 1 refused mid new
+    → stored ≡ merged p.addresses at (count_of size) v → RefusedStore (path_by r) (way_by r) (hart_by r) size at (stored ∷ []) refused mid new
     → f ≡ failure.Lost (lost.Odd odd.Refusal) → WriteCut r size a v count from old new f
 refusal_lost r size a v count number at stored refused from p old mid new f less at_is ready so merged_is none is next t holds =
     onto_cut p (at_rest r (to_write size a v count r) next t) (λ u. place_by r (say (Line.MemoryFault refused) (lower next u))) old new new f
@@ -233,7 +233,7 @@ refusal_lost r size a v count number at stored refused from p old mid new f less
 
 pub store_cut : (r : Reach) (size : Size) (a v count number at stored : ℕ) (from p : Patches) (old_count new_count : ℕ) (old mid new : Tells) (f : Failure)
     → number < count → at ≡ element_at size a number → IsReady mid.far → WroteSome r size a v count number from p old mid
-    → stored ≡ merged p.addresses at (count_of size) v → BlockStoreFell (path_by r) (way_by r) (hart_by r) size at stored 1 old_count new_count mid new f
+    → stored ≡ merged p.addresses at (count_of size) v → BlockStoreFell (path_by r) (way_by r) (hart_by r) size at (stored ∷ []) old_count new_count mid new f
     → WriteCut r size a v count from old new f
 store_cut r size a v count number at stored from p old_count new_count old mid new f less at_is ready so merged_is fell next t holds =
     let more : ℕ = count - (number + 1) in
@@ -246,9 +246,9 @@ store_cut r size a v count number at stored from p old_count new_count old mid n
     (fault_cut (place_by r (next_plan r size a v count number more next u)) old_count new_count mid new f
     (Fault.storing_block (Stores.further (refused_plan size a number next u)
     (lower (writing (path_by r) more size (b + count_of size) v next (done_line count next)) (written_table b (count_of size) v u)) Stores.nothing)
-    (subst (λ w. BlockStoreFell (path_by r) (way_by r) (hart_by r) size b w 1 old_count new_count mid new f)
+    (subst (λ w. BlockStoreFell (path_by r) (way_by r) (hart_by r) size b (w ∷ []) old_count new_count mid new f)
     (merged_is ∙ ap (λ x. merged p.addresses x (count_of size) v) at_is ∙ writes_alike p u held b (count_of size) v)
-    (subst (λ x. BlockStoreFell (path_by r) (way_by r) (hart_by r) size x stored 1 old_count new_count mid new f) at_is fell)))))
+    (subst (λ x. BlockStoreFell (path_by r) (way_by r) (hart_by r) size x (stored ∷ []) old_count new_count mid new f) at_is fell)))))
 
 -- ---- by what the refusal answers
 

@@ -1,31 +1,19 @@
-use Rattle.std.proofs.Common.{◌≡◌, ◌+◌, ◌%◌, ◌<◌, ◌≤◌, arith, length}
+use Rattle.std.proofs.Common.{◌≡◌, ◌∙◌, ◌+◌, ◌-◌, ap, arith, drop, length, sym, take}
+use Rattle.rv_model.specs.Size.{count_of}
 use Rattle.elf_load.specs.Elements.{bytes_of}
-use Rattle.elf_load.proofs.CutSteps.{single_next, word_next}
+use Rattle.elf_load.specs.Fields.{number_of}
+use Rattle.elf_load.specs.Runs.{size_from}
+use Rattle.elf_load.proofs.ElementLemmas.{element_next}
 use Rattle.elf_load.proofs.SegmentLemmas.{length-bytes_of}
 use Rattle.elf_load.proofs.element.element_at.Goals as goal
-use Rattle.elf_load.proofs.element.element_at.Goals.{
-  else-address-eq0-via-else-address-eq0,
-  else-address-eq0-via-then-address-eq0+else-segment-done-ge-WORD_SIZE,
-}
 
-pub returns-then-segment-done-ge-WORD_SIZE-clause-next : goal.returns-then-segment-done-ge-WORD_SIZE-clause-next
-returns-then-segment-done-ge-WORD_SIZE-clause-next c =
-    let whole = length-bytes_of c.args.file.now c.args.segment.now
+pub returns-clause-next : goal.returns-clause-next
+returns-clause-next c =
+    let bytes = bytes_of c.args.file.now c.args.segment.now in
+    let whole : length bytes ≡ c.args.segment.now.in_memory = length-bytes_of c.args.file.now c.args.segment.now
     (record { in_file = c.requires.lies; grows = c.requires.grows; in_addresses = c.requires.ends }) in
-    let enough : c.args.done + 8 ≤ length (bytes_of c.args.file.now c.args.segment.now) =
-    omega (arith, whole, c.if-segment-done-ge-WORD_SIZE.true) in
-    word_next c.args.segment.now.address c.args.done c.value_at-value.result (bytes_of c.args.file.now c.args.segment.now) c.if-address-eq0.true enough
-    c.value_at-value.ensures
-
-pub returns-else-address-eq0-clause-next : goal.returns-else-address-eq0-clause-next
-returns-else-address-eq0-clause-next c =
-    let whole = length-bytes_of c.args.file.now c.args.segment.now
-    (record { in_file = c.requires.lies; grows = c.requires.grows; in_addresses = c.requires.ends }) in
-    let inside : c.args.done < length (bytes_of c.args.file.now c.args.segment.now) = omega (arith, whole, c.requires.inside) in
-    let short : (c.args.segment.now.address + c.args.done) % 8 ≡ 0 → length (bytes_of c.args.file.now c.args.segment.now) < c.args.done + 8 = λ aligned.
-    elim c.else-address-eq0.branch [
-      | else-address-eq0-via-then-address-eq0+else-segment-done-ge-WORD_SIZE w ↦ omega (arith, whole, w.if-segment-done-ge-WORD_SIZE.false)
-      | else-address-eq0-via-else-address-eq0 w ↦ absurd (w.if-address-eq0.false aligned)
-    ] in
-    single_next c.args.segment.now.address c.args.done c.value_at-value-else-address-eq0.result (bytes_of c.args.file.now c.args.segment.now) short inside
-    c.value_at-value-else-address-eq0.ensures
+    let counted : c.from.result ≡ count_of c.size_at-size.result = omega (arith, c.count.ensures, c.from.ensures) in
+    element_next c.size_at-size.result c.args.segment.now.address c.args.done c.value_at-value.result bytes
+    (c.size_at-size.ensures ∙ ap (λ n. size_from (c.args.segment.now.address + c.args.done) (n - c.args.done)) (sym whole))
+    (omega (arith, whole, c.requires.inside))
+    (c.value_at-value.ensures ∙ ap (λ n. number_of (take n (drop c.args.done bytes))) counted)

@@ -73,7 +73,7 @@ pub returns-in_err-refused-clause-caused : goal.returns-in_err-refused-clause-ca
 returns-in_err-refused-clause-caused g c =
     since_err ⊥ c.in_err-refused.field-0.0 (g.D.Dmi.seen c.args.link.now) (g.D.Dmi.seen c.storing.link) (g.D.Dmi.seen c.store_by.new.link) _
     c.from_residual.ensures.1 c.storing.invariant.later c.store_by.ensures.keeps.later
-    (store_fell c.args.size _ _ 1 c.in_err-refused.field-0.0 (g.D.Dmi.seen c.storing.link) (g.D.Dmi.seen c.store_by.new.link) c.in_err-refused.ensures.fell)
+    (store_fell c.args.size _ _ c.in_err-refused.field-0.0 (g.D.Dmi.seen c.storing.link) (g.D.Dmi.seen c.store_by.new.link) c.in_err-refused.ensures.fell)
 
 pub returns-in-Some-clause-caused : goal.returns-in-Some-clause-caused
 returns-in-Some-clause-caused g c =
