@@ -2,6 +2,7 @@ pub mod CallLemmas
 pub mod CutLemmas
 pub mod CutSteps
 pub mod ElementLemmas
+pub mod Failing
 pub mod Going
 pub mod LayLemmas
 pub mod NumberLemmas

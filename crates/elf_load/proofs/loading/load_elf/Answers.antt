@@ -9,23 +9,8 @@ use Rattle.elf_load.specs.Elf.{elements, memory_size}
 use Rattle.elf_load.specs.Fields.{segments_of}
 use Rattle.elf_load.specs.Runs.{calls_from, calls_most, elements_in}
 use Rattle.elf_load.proofs.CallLemmas.{calls_of, calls_within, rest_of_calls}
-use Rattle.elf_load.proofs.Going.{
-  Going,
-  end_keeps,
-  end_made,
-  end_rises,
-  end_stored,
-  err_carried,
-  failed_cut,
-  failed_keeps,
-  failed_left,
-  failed_made,
-  failed_rises,
-  going_as,
-  going_on,
-  going_start,
-  keeps_carried,
-}
+use Rattle.elf_load.proofs.Failing.{err_carried, failed_cut, failed_keeps, failed_left, failed_made, failed_rises, keeps_carried}
+use Rattle.elf_load.proofs.Going.{Going, end_keeps, end_made, end_rises, end_stored, going_as, going_on, going_start}
 use Rattle.elf_load.proofs.SoundLemmas.{memory_fits, memory_most, rest_is_none, rest_of_elements, segment_is_done, segment_lies, segment_small}
 use Rattle.elf_load.proofs.loading.load_elf.Goals as goal
 
