@@ -185,7 +185,7 @@ block_cut r size a count p old_count new_count old new was f aligned ready fell 
 
 pub elements_cut : (r : Reach) (size : Size) (a count : ℕ) (values : List ℕ) (is_whole : Bool) (p : Patches) (old new : Tells) (was is : Option (List ℕ))
     (f : Failure) → f ≡ failure.Sink → is_aligned a size ≡ true → IsReady old.far
-        → BlockLoadedAs (path_by r) (way_by r) (hart_by r) size a count values old new is_whole
+    → BlockLoadedAs (path_by r) (way_by r) (hart_by r) size a count values old new is_whole
     → GrewByPrefix (text_of_all (shown_lines p size a values)) was is → RestCut r (to_read size a count r) p old new was is f
 elements_cut r size a count values true p old new was is f sink aligned ready l front =
     lines_short r (to_read size a count r) p (shown_lines p size a values) (λ next t. lower next t) old new was is f sink (λ next t q. lower_quiet next t q)

@@ -71,7 +71,11 @@ fn reads_prints_and_refuses(rt: HostRuntime) -> Result<(), Fail> {
 fn other_scripts_have_none(rt: HostRuntime) -> Result<(), Fail> {
     for text in "soft 0x80000000|unsoft 0x80000000".split('|') {
         let refused = parse(rt.alloc(), text.as_bytes()).err();
-        assert_eq!(rt; refused.map(|error| error.fault.number()), Some(2), "{text}");
+        assert_eq!(rt;
+            refused.map(|error| error.fault.number()),
+            Some(2),
+            "{text}"
+        );
     }
     Ok(())
 }
