@@ -9,7 +9,7 @@ use Rattle.debug_model.specs.Told.{Far, IsReady, site_of}
 use Rattle.probe_access.specs.declared.fault.AccessFault.{AccessFault}
 use Rattle.probe_access.specs.declared.fault.AccessFault.TheVariants as access_fault
 use Rattle.probe_run.specs.Acts.{Did, Tells}
-use Rattle.probe_access.specs.Accesses.{IfMemory}
+use Rattle.probe_access.specs.Accesses.{IfMemory, IfMemoryAt}
 use Rattle.probe_access.specs.Blocks.{element_at, value_at}
 use Rattle.probe_access.specs.BusAwaits.{AwaitedStoresFailed, StoreNextFailed, StoresAwaited}
 use Rattle.probe_access.specs.BusAwaits.AwaitedStoresFailed.{in_start, in_next}
@@ -20,7 +20,7 @@ use Rattle.probe_access.specs.BusStoreStreams.{element_puts, upper_at}
 use Rattle.probe_access.specs.BusRuns.{BusEndFailed}
 use Rattle.probe_access.specs.Cuts.{IfCut, Leaves}
 use Rattle.probe_access.proofs.BlockCauses.{calls}
-use Rattle.probe_access.proofs.BusBlockCauses.{awaited_store_calls, bus_causes_behind, bus_stores_calls, end_causes, no_memory}
+use Rattle.probe_access.proofs.BusBlockCauses.{awaited_store_calls, bus_causes_behind, bus_stores_calls, end_causes}
 use Rattle.probe_access.proofs.BusStoreAwaitCuts.{asking_cut, ending_cut, started_cut}
 use Rattle.probe_access.proofs.BusStoreAwaitTold.{RefusedAt, store_oddly, store_refused, still_told, went_at}
 use Rattle.probe_access.proofs.BusStoreCuts.{StoresCut, cut_left}
@@ -53,28 +53,31 @@ await_causes size address values from count old_count mid_count new_count old fi
 
 -- ---- what memory refused
 
-ending_refused : (size : Size) (address : ℕ) (values : List ℕ) (count from n at old_count new_count : ℕ) (old first mid asked new : Tells)
+ending_refused : (size : Size) (address : ℕ) (values : List ℕ) (count from n old_count new_count : ℕ) (old first mid asked new : Tells)
     (e : AccessFault) → n < count
     → BusValueStores size address values old from first → StoresAwaited size address values from first n mid
-    → Did mid (element_puts (upper_at values n) (value_at values n)) asked → BusEndFailed at old_count new_count asked new e
-    → IfMemory (BusValueStoresRefused size address values count old new) e
-ending_refused size address values count from n at old_count new_count old first mid asked new (access_fault.Dmi why) below s a did f = tt
-ending_refused size address values count from n at old_count new_count old first mid asked new (access_fault.Memory place) below s a did f =
-    BusValueStoresRefused.awaited from n first mid asked below s a did f.1
-ending_refused size address values count from n at old_count new_count old first mid asked new (access_fault.Register number) below s a did f = tt
-ending_refused size address values count from n at old_count new_count old first mid asked new access_fault.StillBusy below s a did f = tt
-ending_refused size address values count from n at old_count new_count old first mid asked new (access_fault.Run why) below s a did f = tt
-ending_refused size address values count from n at old_count new_count old first mid asked new (access_fault.Odd shown) below s a did f = tt
+    → Did mid (element_puts (upper_at values n) (value_at values n)) asked → BusEndFailed (element_at size address n) old_count new_count asked new e
+    → IfMemoryAt (BusValueStoresRefused size address values count old new) e
+ending_refused size address values count from n old_count new_count old first mid asked new (access_fault.Dmi why) below s a did f = tt
+ending_refused size address values count from n old_count new_count old first mid asked new (access_fault.Memory place) below s a did f =
+    BusValueStoresRefused.awaited from n first mid asked below f.0 s a did f.1
+ending_refused size address values count from n old_count new_count old first mid asked new (access_fault.Register number) below s a did f = tt
+ending_refused size address values count from n old_count new_count old first mid asked new access_fault.StillBusy below s a did f = tt
+ending_refused size address values count from n old_count new_count old first mid asked new (access_fault.Run why) below s a did f = tt
+ending_refused size address values count from n old_count new_count old first mid asked new (access_fault.Odd shown) below s a did f = tt
+
+no_refusal : (P : ℕ → Type 0) (e : AccessFault) (why : DmiFault) → e ≡ access_fault.Dmi why → IfMemoryAt P e
+no_refusal P e why is = subst (λ (x : AccessFault). IfMemoryAt P x) (sym is) tt
 
 pub await_refused : (size : Size) (address : ℕ) (values : List ℕ) (from count old_count new_count : ℕ) (old first new : Tells) (e : AccessFault)
     → BusValueStores size address values old from first → AwaitedStoresFailed size address values from count old_count new_count first new e
-    → IfMemory (BusValueStoresRefused size address values count old new) e
+    → IfMemoryAt (BusValueStoresRefused size address values count old new) e
 await_refused size address values from count old_count new_count old first new e s (in_start why is b) =
-    no_memory (BusValueStoresRefused size address values count old new) e why is
+    no_refusal (BusValueStoresRefused size address values count old new) e why is
 await_refused size address values from count old_count new_count old first new e s (in_next n mid below a (in_put why is b)) =
-    no_memory (BusValueStoresRefused size address values count old new) e why is
+    no_refusal (BusValueStoresRefused size address values count old new) e why is
 await_refused size address values from count old_count new_count old first new e s (in_next n mid below a (in_end asked did f)) =
-    ending_refused size address values count from n (element_at size address n) old_count new_count old first mid asked new e below s a did f
+    ending_refused size address values count from n old_count new_count old first mid asked new e below s a did f
 
 -- ---- what it leaves of a told chip
 

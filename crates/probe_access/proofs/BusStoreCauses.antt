@@ -10,7 +10,7 @@ use Rattle.probe_access.specs.declared.fault.AccessFault.TheVariants as access_f
 use Rattle.probe_access.specs.declared.odd.OddStatus.{OddStatus}
 use Rattle.probe_run.specs.Acts.{Tells, tells}
 use Rattle.probe_run.specs.Acts.Did.{nothing}
-use Rattle.probe_access.specs.Accesses.{IfMemory}
+use Rattle.probe_access.specs.Accesses.{IfMemory, IfMemoryAt}
 use Rattle.probe_access.specs.BusBlockRuns.{BusCauses, BusReported, BusReportedOddly, BusValueStores, BusValueStoresRefused}
 use Rattle.probe_access.specs.BusBlocks.{BusValuesStoreCut, BusValuesStoreLeft}
 use Rattle.probe_access.specs.BusRuns.{bus_error, bus_poll}
@@ -139,9 +139,9 @@ fell_ready size address values count old_count new_count far coming new (access_
 fell_ready size address values count old_count new_count far coming new (access_fault.Odd shown) ready aligned ends few some f = tt
 
 pub fell_refused : (size : Size) (address : ℕ) (values : List ℕ) (count old_count new_count : ℕ) (old new : Tells) (e : AccessFault)
-    → StoresFell size address values count old_count new_count old new e → IfMemory (BusValueStoresRefused size address values count old new) e
+    → StoresFell size address values count old_count new_count old new e → IfMemoryAt (BusValueStoresRefused size address values count old new) e
 fell_refused size address values count old_count new_count old new (access_fault.Dmi why) f = tt
-fell_refused size address values count old_count new_count old new (access_fault.Memory at) f = BusValueStoresRefused.in_run f.0 f.1 f.2 f.5 f.4
+fell_refused size address values count old_count new_count old new (access_fault.Memory at) f = BusValueStoresRefused.in_run f.0 f.1 f.2 f.3 f.5 f.4
 fell_refused size address values count old_count new_count old new (access_fault.Register number) f = tt
 fell_refused size address values count old_count new_count old new access_fault.StillBusy f = tt
 fell_refused size address values count old_count new_count old new (access_fault.Run why) f = tt

@@ -50,20 +50,20 @@ pub data BusValueStores (size : Size) (address : ℕ) (values : List ℕ) (old :
   awaited : (from n : ℕ) (mid new : Tells) → BusValueStores size address values old from mid → StoresAwaited size address values from mid n new
       → BusValueStores size address values old n new
 
--- and the next was tried and refused
-pub data BusValueStoresRefused (size : Size) (address : ℕ) (values : List ℕ) (count : ℕ) (old new : Tells) : Type 0 where
-  in_run : (last done : ℕ) → done < count → StoresStopped size address values count last done old new → bus_error last ≡ outside_error
-      → BusValueStoresRefused size address values count old new
-  awaited : (from n : ℕ) (first mid asked : Tells) → n < count → BusValueStores size address values old from first
+-- and the next, which is the one at this address, was tried and refused
+pub data BusValueStoresRefused (size : Size) (address : ℕ) (values : List ℕ) (count : ℕ) (old new : Tells) (at : ℕ) : Type 0 where
+  in_run : (last done : ℕ) → done < count → at ≡ element_at size address done → StoresStopped size address values count last done old new
+      → bus_error last ≡ outside_error → BusValueStoresRefused size address values count old new at
+  awaited : (from n : ℕ) (first mid asked : Tells) → n < count → at ≡ element_at size address n → BusValueStores size address values old from first
       → StoresAwaited size address values from first n mid → Did mid (element_puts (upper_at values n) (value_at values n)) asked → BusRefused asked new
-      → BusValueStoresRefused size address values count old new
+      → BusValueStoresRefused size address values count old new at
 
 -- of one value, so many times
 abbrev pub BusStores : Size → (address value : ℕ) → Tells → (count : ℕ) → Tells → Type 0
 BusStores size address value old count new = BusValueStores size address (replicate count value) old count new
 
-abbrev pub BusStoresRefused : Size → (address value count : ℕ) → Tells → Tells → Type 0
-BusStoresRefused size address value count old new = BusValueStoresRefused size address (replicate count value) count old new
+abbrev pub BusStoresRefused : Size → (address value count : ℕ) → Tells → Tells → (at : ℕ) → Type 0
+BusStoresRefused size address value count old new at = BusValueStoresRefused size address (replicate count value) count old new at
 
 -- ---- what a fault follows
 

@@ -6,7 +6,7 @@ ghost use Rattle.rv_model.specs.Size.{count_of};
 ghost use Rattle.debug_model.specs.Rises.{Within};
 ghost use Rattle.debug_model.specs.Command.{most_elements, all_addresses};
 ghost use Rattle.debug_model.specs.Told.{IsReady};
-ghost use Rattle.probe_access.specs.Accesses.{IfMemory};
+ghost use Rattle.probe_access.specs.Accesses.{IfMemory, IfMemoryAt};
 ghost use Rattle.probe_access.specs.BlockRises.{bus_load_rises, bus_store_rises, bus_values_rises};
 ghost use Rattle.probe_access.specs.BusBlocks.{BusBlockLoadCut, BusBlockLoadLeft, BusBlockLoadedAt, BusBlockStoreCut, BusBlockStoreLeft, BusBlockStoredAt};
 ghost use Rattle.probe_access.specs.BusBlocks.{BusValuesStoreCut, BusValuesStoreLeft, BusValuesStoredAt};
@@ -171,7 +171,7 @@ pub fn bus_store_values<D: Dmi>(
     ensures stored { OnOk result (OnChip (BusValuesStoredAt size address values.now (length values.now)) (D.seen link.old) (D.seen link.new)) }
     ensures stores { OnOk result (BusValueStores size address values.now (told (D.seen link.old)) (length values.now) (told (D.seen link.new))) }
     ensures refused { IfErr result
-        (IfMemory (BusValueStoresRefused size address values.now (length values.now) (told (D.seen link.old)) (told (D.seen link.new)))) }
+        (IfMemoryAt (BusValueStoresRefused size address values.now (length values.now) (told (D.seen link.old)) (told (D.seen link.new)))) }
     ensures few { OnOk result (DidAtMost sbcs_address (2 * data_words values.now + 14) (told (D.seen link.old)) (told (D.seen link.new))) }
     ensures few_failed { IfErr result
         (IfUnbroken (DidAtMost sbcs_address (2 * data_words values.now + 14) (told (D.seen link.old)) (told (D.seen link.new)))) }
@@ -210,7 +210,7 @@ pub fn bus_store_block<D: Dmi>(
     requires ends { address + count * count_of size ≤ all_addresses }
     ensures stored { OnOk result (OnChip (BusBlockStoredAt size address value count) (D.seen link.old) (D.seen link.new)) }
     ensures stores { OnOk result (BusStores size address value (told (D.seen link.old)) count (told (D.seen link.new))) }
-    ensures refused { IfErr result (IfMemory (BusStoresRefused size address value count (told (D.seen link.old)) (told (D.seen link.new)))) }
+    ensures refused { IfErr result (IfMemoryAt (BusStoresRefused size address value count (told (D.seen link.old)) (told (D.seen link.new)))) }
     ensures few { OnOk result (DidAtMost sbcs_address (3 * count + 24) (told (D.seen link.old)) (told (D.seen link.new))) }
     ensures few_failed { IfErr result (IfUnbroken (DidAtMost sbcs_address (3 * count + 24) (told (D.seen link.old)) (told (D.seen link.new)))) }
     ensures left { IfErr result (BusBlockStoreLeft size address count value (D.seen link.old).far (D.seen link.new).far) }

@@ -9,7 +9,7 @@ use Rattle.debug_model.specs.Told.{Far}
 use Rattle.abstract_debugger.specs.Ways.{Way}
 use Rattle.probe_access.specs.declared.fault.AccessFault.{AccessFault}
 use Rattle.probe_access.specs.declared.fault.AccessFault.TheVariants as fault
-use Rattle.probe_access.specs.Accesses.{IfMemory}
+use Rattle.probe_access.specs.Accesses.{IfMemoryAt}
 use Rattle.probe_access.specs.Blocks.{element_at, value_at}
 use Rattle.probe_access.specs.BusBlockRuns.{BusStores, BusStoresRefused, BusValueStores, BusValueStoresRefused}
 use Rattle.probe_access.specs.BusBlocks.{BusBlockStoreCut, BusBlockStoreLeft, BusBlockStoreRefused, BusBlockStoredAt, BusStoredEach, BusStoredOne}
@@ -25,14 +25,16 @@ use Rattle.probe_session.proofs.CallLemmas.{leaves_as}
 
 pub values_stored_none : {way : Way} {h : ℕ} (size : Size) (address : ℕ) (values : List ℕ) (at : ℕ) (old new : Tells) (e : AccessFault)
     → e ≡ fault.Memory at → BusValuesStoreLeft size address values (length values) old.far new.far e
-    → IfMemory (BusValueStoresRefused size address values (length values) old new) e → RefusedStore Bus way h size address values at old new
+    → IfMemoryAt (BusValueStoresRefused size address values (length values) old new) e → RefusedStore Bus way h size address values at old new
 values_stored_none size address values at old new e is left refused =
     let l = subst (BusValuesStoreLeft size address values (length values) old.far new.far) is left in
     record {
       done = l.0;
       below = l.1;
       at_is = l.2;
-      none = BlockStoredNone.by_bus (subst (IfMemory (BusValueStoresRefused size address values (length values) old new)) is refused) l.3;
+      none = BlockStoredNone.by_bus
+          (subst (BusValueStoresRefused size address values (length values) old new) l.2
+          (subst (IfMemoryAt (BusValueStoresRefused size address values (length values) old new)) is refused)) l.3;
     }
 
 values_left : (size : Size) (address : ℕ) (values : List ℕ) (s t : Site) → BusValuesStoreCut size address values (length values) s t
@@ -120,10 +122,10 @@ bus_block_left size address value count old new e left =
 
 pub bus_block_stored_none : {way : Way} {h : ℕ} (size : Size) (address value count at : ℕ) (old new : Tells) (e : AccessFault) → e ≡ fault.Memory at
     → BusBlockStoreLeft size address count value old.far new.far e
-    → IfMemory (BusStoresRefused size address value count old new) e → RefusedStore Bus way h size address (replicate count value) at old new
+    → IfMemoryAt (BusStoresRefused size address value count old new) e → RefusedStore Bus way h size address (replicate count value) at old new
 bus_block_stored_none size address value count at old new e is left refused =
     values_stored_none size address (replicate count value) at old new e is (bus_block_left size address value count old.far new.far e left)
-    (copies_length count value (λ n. IfMemory (BusValueStoresRefused size address (replicate count value) n old new) e) refused)
+    (copies_length count value (λ n. IfMemoryAt (BusValueStoresRefused size address (replicate count value) n old new) e) refused)
 
 pub bus_stores_cut : (size : Size) (address value count : ℕ) (old new : Option Far) (e : AccessFault)
     → IfCut (Leaves (BusBlockStoreCut size address value count) old new) e

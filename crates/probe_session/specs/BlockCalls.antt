@@ -64,7 +64,7 @@ pub data BlockStoredNone : Path → Way → (h : ℕ) → (size : Size) → (add
       → StoreRunsFailed size address value count old_count new_count old new (fault.Memory (element_at size address done))
       → WhereTold (BlockStoreRefused size address value done) old.far new.far → BlockStoredNone Progbuf way h size address values done old new
   by_bus : {way : Way} {size : Size} {h address done : ℕ} {values : List ℕ} {old new : Tells}
-      → BusValueStoresRefused size address values (length values) old new
+      → BusValueStoresRefused size address values (length values) old new (element_at size address done)
       → WhereTold (BusValueStoreRefused size address values done) old.far new.far → BlockStoredNone Bus way h size address values done old new
 
 -- ---- calls that failed

@@ -4,7 +4,7 @@ use Rattle.debug_model.specs.Rises.{Within}
 use Rattle.debug_model.specs.Scan.{WhereTold}
 use Rattle.probe_run.specs.Told.{told}
 use Rattle.debug_model.specs.Addresses.{sbcs_address}
-use Rattle.probe_access.specs.Accesses.{IfMemory}
+use Rattle.probe_access.specs.Accesses.{IfMemoryAt}
 use Rattle.probe_access.specs.BlockRises.{bus_store_rises}
 use Rattle.probe_access.specs.BusBlockRuns.{BusValueStores, BusValueStoresRefused}
 use Rattle.probe_access.specs.BusBlocks.{BusValuesStoreCut, BusValuesStoreLeft, BusValuesStoredAt}
@@ -19,7 +19,7 @@ use Rattle.probe_access.proofs.bus_blocks.bus_store_block.Goals as goal
 pub returns-in_err-bus_store_values-clause-refused : goal.returns-in_err-bus_store_values-clause-refused
 returns-in_err-bus_store_values-clause-refused g c =
     err_failed c.from_residual.result c.in_err-bus_store_values.field-0.0 _ c.from_residual.ensures.1
-    (as_copies (λ xs n. IfMemory (BusValueStoresRefused c.args.size c.args.address xs n (told (g.D.Dmi.seen c.args.link.now)) (told
+    (as_copies (λ xs n. IfMemoryAt (BusValueStoresRefused c.args.size c.args.address xs n (told (g.D.Dmi.seen c.args.link.now)) (told
     (g.D.Dmi.seen c.bus_store_values.new.link))) c.in_err-bus_store_values.field-0.0) c.args.count c.args.value
     c.requires.room c.in_err-bus_store_values.ensures.refused)
 
