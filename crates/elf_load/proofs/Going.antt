@@ -41,7 +41,7 @@ use Rattle.debug_model.specs.Scan.{WhereTold}
 use Rattle.debug_model.specs.Told.{Far, IsReady, site_of}
 use Rattle.probe_access.specs.declared.fault.AccessFault.{AccessFault}
 use Rattle.probe_access.specs.declared.fault.AccessFault.TheVariants as access_fault
-use Rattle.probe_access.specs.Accesses.{IfMemory}
+use Rattle.probe_access.specs.Accesses.{IfMemoryAt}
 use Rattle.probe_access.specs.Blocks.{element_at}
 use Rattle.probe_access.specs.BlockRises.{bus_values_rises}
 use Rattle.probe_access.specs.BusBlockRuns.{BusCauses, BusValueStores, BusValueStoresRefused}
@@ -66,7 +66,7 @@ abbrev RunMade : Run → List ℕ → Tells → Tells → Type 0
 RunMade r values old new = BusValueStores r.size r.address values old (length values) new
 
 abbrev RunRefused : Run → List ℕ → Tells → Tells → AccessFault → Type 0
-RunRefused r values old new e = IfMemory (BusValueStoresRefused r.size r.address values (length values) old new) e
+RunRefused r values old new e = IfMemoryAt (BusValueStoresRefused r.size r.address values (length values) old new) e
 
 abbrev RunLeft : Run → List ℕ → Option Far → Option Far → AccessFault → Type 0
 RunLeft r values old new e = BusValuesStoreLeft r.size r.address values (length values) old new e

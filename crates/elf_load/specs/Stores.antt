@@ -12,7 +12,7 @@ use Rattle.abstract_debugger.specs.Turns.{after_turns}
 use Rattle.probe_run.specs.Acts.{Tells}
 use Rattle.probe_access.specs.declared.fault.AccessFault.{AccessFault}
 use Rattle.probe_access.specs.declared.fault.AccessFault.TheVariants as fault
-use Rattle.probe_access.specs.Accesses.{IfMemory, OneBusAccess, unchanged}
+use Rattle.probe_access.specs.Accesses.{IfMemoryAt, OneBusAccess, unchanged}
 use Rattle.probe_access.specs.BusBlockRuns.{BusCauses, BusValueStores, BusValueStoresRefused}
 use Rattle.probe_access.specs.BusBlocks.{BusValuesStoreCut, BusValuesStoreLeft, BusValuesStoredAt}
 use Rattle.probe_access.specs.Cuts.{BusLeftOff, IfCut, Leaves, StoreLeaves}
@@ -118,7 +118,7 @@ pub record MadeUpTo (es : List Element) (most : ℕ) (old_count new_count : ℕ)
   pub later : old_count ≤ mid_count
   pub later_still : mid_count ≤ new_count
   pub ready : IsReady mid.far
-  pub refused : IfMemory (BusValueStoresRefused next.size next.address next.values.items (length next.values.items) mid new) e
+  pub refused : IfMemoryAt (BusValueStoresRefused next.size next.address next.values.items (length next.values.items) mid new) e
   pub left : BusValuesStoreLeft next.size next.address next.values.items (length next.values.items) mid.far new.far e
   pub causes : BusCauses mid_count new_count mid new e
   pub cut : IfCut (Leaves (BusValuesStoreCut next.size next.address next.values.items (length next.values.items)) mid.far new.far) e

@@ -17,6 +17,7 @@ use Rattle.probe_access.specs.declared.fault.AccessFault.{AccessFault}
 use Rattle.probe_access.specs.declared.fault.AccessFault.TheVariants as access_fault
 use Rattle.probe_access.specs.Accesses.{IfMemory}
 use Rattle.probe_access.specs.Blocks.{element_at, value_at}
+use Rattle.probe_access.specs.BusBlockRuns.{BusValueStoresRefused}
 use Rattle.probe_access.specs.Faults.{access_why}
 use Rattle.probe_run.specs.Acts.{Tells}
 use Rattle.probe_session.specs.declared.fault.Failure.{Failure}
@@ -105,6 +106,12 @@ front_goes es next old_count new_count old new why u =
 
 -- ---- a run of which memory refused an element
 
+refused_there : {most : ℕ} {es : List Element} {at old_count new_count : ℕ} {old new : Tells}
+    → (u : MadeUpTo es most old_count new_count old new (access_fault.Memory at)) → BusValueStoresRefused u.next.size u.next.address u.next.values.items
+    (length u.next.values.items) u.mid new (element_at u.next.size u.next.address u.left.0)
+refused_there {new = new} u =
+    subst (BusValueStoresRefused u.next.size u.next.address u.next.values.items (length u.next.values.items) u.mid new) u.left.2 u.refused
+
 pub stored_up_to : {most : ℕ} (es : List Element) (at old_count new_count : ℕ) (old new : Tells)
     → MadeUpTo es most old_count new_count old new (access_fault.Memory at) → Went (at_elements es) (λ next. at_say (Line.MemoryFault at) not_loaded) [] old new
 stored_up_to es at old_count new_count old new u =
@@ -115,7 +122,7 @@ stored_up_to es at old_count new_count old new u =
           row_front u.next.size u.next.address u.next.values.items done u.rest next u.left.1 in
           step
           (step (front_goes es next old_count new_count old new (access_fault.Memory at) u)
-          (stores_block_none f.stored u.left.1 f.stores (BlockStoredNone.by_bus u.refused u.left.3)))
+          (stores_block_none f.stored u.left.1 f.stores (BlockStoredNone.by_bus (refused_there u) u.left.3)))
           rests;
     })
 
