@@ -41,10 +41,9 @@ use Rattle.debug_model.specs.Scan.{WhereTold}
 use Rattle.debug_model.specs.Told.{Far, IsReady, site_of}
 use Rattle.probe_access.specs.declared.fault.AccessFault.{AccessFault}
 use Rattle.probe_access.specs.declared.fault.AccessFault.TheVariants as access_fault
-use Rattle.probe_access.specs.Accesses.{IfMemoryAt}
 use Rattle.probe_access.specs.Blocks.{element_at}
 use Rattle.probe_access.specs.BlockRises.{bus_values_rises}
-use Rattle.probe_access.specs.BusBlockRuns.{BusCauses, BusValueStores, BusValueStoresRefused}
+use Rattle.probe_access.specs.BusBlockRuns.{BusCauses, BusValueStores, BusValueStoresRefused, IfMemoryAt}
 use Rattle.probe_access.specs.BusBlocks.{BusValueStoreRefused, BusValuesStoreCut, BusValuesStoreLeft, BusValuesStoredAt}
 use Rattle.probe_access.specs.Cuts.{IfCut, IsLeft, Leaves}
 use Rattle.probe_access.specs.Faults.{access_why}

@@ -12,8 +12,8 @@ use Rattle.abstract_debugger.specs.Turns.{after_turns}
 use Rattle.probe_run.specs.Acts.{Tells}
 use Rattle.probe_access.specs.declared.fault.AccessFault.{AccessFault}
 use Rattle.probe_access.specs.declared.fault.AccessFault.TheVariants as fault
-use Rattle.probe_access.specs.Accesses.{IfMemoryAt, OneBusAccess, unchanged}
-use Rattle.probe_access.specs.BusBlockRuns.{BusCauses, BusValueStores, BusValueStoresRefused}
+use Rattle.probe_access.specs.Accesses.{OneBusAccess, unchanged}
+use Rattle.probe_access.specs.BusBlockRuns.{BusCauses, BusValueStores, BusValueStoresRefused, IfMemoryAt}
 use Rattle.probe_access.specs.BusBlocks.{BusValuesStoreCut, BusValuesStoreLeft, BusValuesStoredAt}
 use Rattle.probe_access.specs.Cuts.{BusLeftOff, IfCut, Leaves, StoreLeaves}
 use Rattle.probe_access.specs.Faults.{access_why}

@@ -9,12 +9,12 @@ use Rattle.debug_model.specs.Told.{Far, IsReady, site_of}
 use Rattle.probe_access.specs.declared.fault.AccessFault.{AccessFault}
 use Rattle.probe_access.specs.declared.fault.AccessFault.TheVariants as access_fault
 use Rattle.probe_run.specs.Acts.{Did, Tells}
-use Rattle.probe_access.specs.Accesses.{IfMemory, IfMemoryAt}
+use Rattle.probe_access.specs.Accesses.{IfMemory}
 use Rattle.probe_access.specs.Blocks.{element_at, value_at}
 use Rattle.probe_access.specs.BusAwaits.{AwaitedStoresFailed, StoreNextFailed, StoresAwaited}
 use Rattle.probe_access.specs.BusAwaits.AwaitedStoresFailed.{in_start, in_next}
 use Rattle.probe_access.specs.BusAwaits.StoreNextFailed.{in_put, in_end}
-use Rattle.probe_access.specs.BusBlockRuns.{BusCauses, BusValueStores, BusValueStoresRefused}
+use Rattle.probe_access.specs.BusBlockRuns.{BusCauses, BusValueStores, BusValueStoresRefused, IfMemoryAt}
 use Rattle.probe_access.specs.BusBlocks.{BusValuesStoreCut, BusValuesStoreLeft, BusValuesStoredAt}
 use Rattle.probe_access.specs.BusStoreStreams.{element_puts, upper_at}
 use Rattle.probe_access.specs.BusRuns.{BusEndFailed}

@@ -10,8 +10,8 @@ use Rattle.probe_access.specs.declared.fault.AccessFault.TheVariants as access_f
 use Rattle.probe_access.specs.declared.odd.OddStatus.{OddStatus}
 use Rattle.probe_run.specs.Acts.{Tells, tells}
 use Rattle.probe_run.specs.Acts.Did.{nothing}
-use Rattle.probe_access.specs.Accesses.{IfMemory, IfMemoryAt}
-use Rattle.probe_access.specs.BusBlockRuns.{BusCauses, BusReported, BusReportedOddly, BusValueStores, BusValueStoresRefused}
+use Rattle.probe_access.specs.Accesses.{IfMemory}
+use Rattle.probe_access.specs.BusBlockRuns.{BusCauses, BusReported, BusReportedOddly, BusValueStores, BusValueStoresRefused, IfMemoryAt}
 use Rattle.probe_access.specs.BusBlocks.{BusValuesStoreCut, BusValuesStoreLeft}
 use Rattle.probe_access.specs.BusRuns.{bus_error, bus_poll}
 use Rattle.probe_access.specs.BusStoreStreams.{RunStores, StoresFailed, StoresFell, StoresOddly, StoresStopped}

@@ -120,12 +120,3 @@ IfMemory P (fault.Register number) = Unit {0}
 IfMemory P fault.StillBusy = Unit {0}
 IfMemory P (fault.Run why) = Unit {0}
 IfMemory P (fault.Odd shown) = Unit {0}
-
--- and one of the address that it refused
-abbrev pub IfMemoryAt : (ℕ → Type 0) → AccessFault → Type 0
-IfMemoryAt P (fault.Dmi why) = Unit {0}
-IfMemoryAt P (fault.Memory at) = P at
-IfMemoryAt P (fault.Register number) = Unit {0}
-IfMemoryAt P fault.StillBusy = Unit {0}
-IfMemoryAt P (fault.Run why) = Unit {0}
-IfMemoryAt P (fault.Odd shown) = Unit {0}

@@ -67,6 +67,15 @@ BusStoresRefused size address value count old new at = BusValueStoresRefused siz
 
 -- ---- what a fault follows
 
+-- a fact of the address that memory refused, behind such a fault
+abbrev pub IfMemoryAt : (ℕ → Type 0) → AccessFault → Type 0
+IfMemoryAt P (fault.Dmi why) = Unit {0}
+IfMemoryAt P (fault.Memory at) = P at
+IfMemoryAt P (fault.Register number) = Unit {0}
+IfMemoryAt P fault.StillBusy = Unit {0}
+IfMemoryAt P (fault.Run why) = Unit {0}
+IfMemoryAt P (fault.Odd shown) = Unit {0}
+
 -- a poll showed the end of an access outside memory
 pub record BusReported (old new : Tells) : Type 0 where
   pub front : List Act

@@ -9,9 +9,8 @@ use Rattle.debug_model.specs.Told.{Far}
 use Rattle.abstract_debugger.specs.Ways.{Way}
 use Rattle.probe_access.specs.declared.fault.AccessFault.{AccessFault}
 use Rattle.probe_access.specs.declared.fault.AccessFault.TheVariants as fault
-use Rattle.probe_access.specs.Accesses.{IfMemoryAt}
 use Rattle.probe_access.specs.Blocks.{element_at, value_at}
-use Rattle.probe_access.specs.BusBlockRuns.{BusStores, BusStoresRefused, BusValueStores, BusValueStoresRefused}
+use Rattle.probe_access.specs.BusBlockRuns.{BusStores, BusStoresRefused, BusValueStores, BusValueStoresRefused, IfMemoryAt}
 use Rattle.probe_access.specs.BusBlocks.{BusBlockStoreCut, BusBlockStoreLeft, BusBlockStoreRefused, BusBlockStoredAt, BusStoredEach, BusStoredOne}
 use Rattle.probe_access.specs.BusBlocks.{BusStoredValues, BusValueStoreRefused, BusValuesStoreCut, BusValuesStoreLeft, BusValuesStoredAt}
 use Rattle.probe_access.specs.Cuts.{BusLeftOff, IfCut, Leaves, StoreLeaves}

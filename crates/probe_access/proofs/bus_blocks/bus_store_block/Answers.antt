@@ -4,9 +4,8 @@ use Rattle.debug_model.specs.Rises.{Within}
 use Rattle.debug_model.specs.Scan.{WhereTold}
 use Rattle.probe_run.specs.Told.{told}
 use Rattle.debug_model.specs.Addresses.{sbcs_address}
-use Rattle.probe_access.specs.Accesses.{IfMemoryAt}
 use Rattle.probe_access.specs.BlockRises.{bus_store_rises}
-use Rattle.probe_access.specs.BusBlockRuns.{BusValueStores, BusValueStoresRefused}
+use Rattle.probe_access.specs.BusBlockRuns.{BusValueStores, BusValueStoresRefused, IfMemoryAt}
 use Rattle.probe_access.specs.BusBlocks.{BusValuesStoreCut, BusValuesStoreLeft, BusValuesStoredAt}
 use Rattle.probe_access.specs.BusStoreStreams.{data_words}
 use Rattle.probe_access.specs.Cuts.{IfCut, Leaves}
