@@ -38,6 +38,7 @@ use Rattle.wire_session.specs.Seen.{SinkSeen}
 pub record BenchEndBy (first : Live) (sequel : Sequel) (old new : SinkSeen) (bench : Option Live) (status : Status) : Type 0 where
   pub closed : End
   pub behind : SinkSeen  -- the sink behind the session, before a last line
+  pub later : old.faults ≤ behind.faults
   pub ran : OnBenchBy first sequel old behind bench (limit_met bench) closed
   pub told : ClosedBy closed (limit_met bench) behind new status
 
