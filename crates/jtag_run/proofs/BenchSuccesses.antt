@@ -44,12 +44,12 @@ never_lost wire (ends.Wire first) why same = cc
 never_lost wire (ends.Lost cause) why same = cc
 never_lost wire ends.Sink why same = cc
 
-lost_before : (mid new : WireSeen) (e : End) (why : LostCause) → Closes mid new e (ends.Lost why) → e ≡ ends.Lost why
+pub lost_before : (mid new : WireSeen) (e : End) (why : LostCause) → Closes mid new e (ends.Lost why) → e ≡ ends.Lost why
 lost_before mid new e why (behind_fault sends same kept) = sym same
 lost_before mid new e why (quitted sends same done) = sym same
 lost_before mid new e why (unquitted wire sends same done) = absurd (never_lost wire e why same)
 
-may_lose : (p : Plan) (was is : Option (List ℕ)) (first last : Far) (why : LostCause) → LostCaused (Some last) why
+pub may_lose : (p : Plan) (was is : Option (List ℕ)) (first last : Far) (why : LostCause) → LostCaused (Some last) why
     → WrittenBy p was is first last (ends.Lost why) → MayLose (Some last) why
 may_lose p was is first last lost.DmiFailed caused w = caused
 may_lose p was is first last lost.StillBusy caused w = caused
@@ -67,7 +67,7 @@ rises_past : (old mid new : ℕ) → old ≤ mid → mid ≤ new → Rises mid n
 rises_past old mid new first second rises = λ below. past_by old mid new first second below rises (cases_lt mid (2 ^ 64 - 1))
 
 said_behind : (line : List ℕ) (wanted : Status) (old : ℕ) (mid new : SinkSeen) (status : Status) → Closed line wanted mid new status → old ≤ mid.faults
-    → ¬ Rises old new.faults → status ≡ wanted
+    → (Rises old new.faults → ⊥) → status ≡ wanted
 said_behind line wanted old mid new status (said put) later quiet = refl
 said_behind line wanted old mid new status (unsaid front more rises) later quiet = absurd (quiet (rises_past old mid.faults new.faults later more rises))
 
@@ -87,8 +87,8 @@ may_end first sequel was is bench limit (ends.Lost why) s below put =
     (subst (λ e. WrittenBy (sequel_plan sequel) was.printed is.printed (read_out first) s.session.headline.far e) before s.session.headline.holds.written)
 may_end first sequel was is bench limit ends.Sink s below put = absurd (put refl)
 
-status_by : (closed : End) (limit : Bool) (told : Option Far) (old : ℕ) (mid new : SinkSeen) (status : Status) → limit ≡ false → MayEnd told closed
-    → ClosedBy closed limit mid new status → old ≤ mid.faults → ¬ Rises old new.faults → status ≡ status_at closed
+pub status_by : (closed : End) (limit : Bool) (told : Option Far) (old : ℕ) (mid new : SinkSeen) (status : Status) → limit ≡ false → MayEnd told closed
+    → ClosedBy closed limit mid new status → old ≤ mid.faults → (Rises old new.faults → ⊥) → status ≡ status_at closed
 status_by ends.Clean true told old mid new status below may t later quiet = absurd (false≢true (sym below))
 status_by ends.Clean false told old mid new status below may t later quiet = t.0
 status_by ends.WithErrors true told old mid new status below may t later quiet = absurd (false≢true (sym below))
@@ -119,14 +119,14 @@ ends_by first sequel was is left closed status s below put tells =
 
 -- ---- a session whose lines are printed
 
-not_sink : (closed : End) (limit : Bool) (old mid new : SinkSeen) (status : Status) → SinkCaused old.faults mid.faults closed
-    → ClosedBy closed limit mid new status → ¬ Rises old.faults new.faults → closed ≡ ends.Sink → ⊥
+pub not_sink : (closed : End) (limit : Bool) (old mid new : SinkSeen) (status : Status) → SinkCaused old.faults mid.faults closed
+    → ClosedBy closed limit mid new status → (Rises old.faults new.faults → ⊥) → closed ≡ ends.Sink → ⊥
 not_sink closed limit old mid new status caused t quiet is =
     let last : (status ≡ status_as.Sink) × (new ≡ mid) = subst (λ e. ClosedBy e limit mid new status) is t in
     quiet (subst (λ (s : SinkSeen). Rises old.faults s.faults) (sym last.1) (subst (λ e. SinkCaused old.faults mid.faults e) is caused))
 
 pub bench_succeeds : (first : Live) (sequel : Sequel) (old new : SinkSeen) (left : Option Live) (status : Status) → BenchEndBy first sequel old new left status
-    → limit_met left ≡ false → ¬ Rises old.faults new.faults → EndsBy left status
+    → limit_met left ≡ false → (Rises old.faults new.faults → ⊥) → EndsBy left status
 bench_succeeds first sequel old new left status b below quiet =
     ends_by first sequel old b.behind left b.closed status b.ran below
     (not_sink b.closed (limit_met left) old b.behind new status b.ran.session.sink_cause b.told quiet)
@@ -137,7 +137,7 @@ bench_succeeds first sequel old new left status b below quiet =
 on_bench_loops : (way : Way) → IsOnBench way → way ≡ Looped → ⊥
 on_bench_loops way on loops = subst IsOnBench loops on
 
-still_counts : ¬ Rises 0 0
+still_counts : Rises 0 0 → ⊥
 still_counts = λ rises. let h : 0 < 0 = rises (omega arith) in omega (arith, h)
 
 never_sink : (closed : End) → SinkCaused 0 0 closed → closed ≡ ends.Sink → ⊥
@@ -150,7 +150,7 @@ carried_on way first script net_was net_is was is left limit closed on (chained 
 carried_on way first script net_was net_is was is left limit closed on (over_net mid loops joins ran) = absurd (on_bench_loops way on loops)
 
 pub number_succeeds : (way : Way) (first : Live) (script : List Command) (net_was net_is : NetSeen) (old new : SinkSeen) (left : Option Live) (status : Status)
-    → GenEnd way first script net_was net_is old new left status → IsOnBench way → limit_met left ≡ false → ¬ Rises old.faults new.faults → EndsBy left status
+    → GenEnd way first script net_was net_is old new left status → IsOnBench way → limit_met left ≡ false → (Rises old.faults new.faults → ⊥) → EndsBy left status
 number_succeeds way first script net_was net_is old new left status (unjoined fault u was is) on below quiet = absurd (on_bench_loops way on u.loops)
 number_succeeds way first script net_was net_is old new left status (summed taken closed mid counted put later told) on below quiet =
     let s : OnBench first script (taken_seen []) (taken_seen taken) left (limit_met left) closed =

@@ -66,17 +66,17 @@ no_other words value job other p q = false≢true (sym other ∙ ap serves (same
 
 -- ---- a refusal for want of memory
 
-said_by : (line : List ℕ) (wanted : Status) (old new : SinkSeen) (status : Status) → Closed line wanted old new status → ¬ Rises old.faults new.faults
+said_by : (line : List ℕ) (wanted : Status) (old new : SinkSeen) (status : Status) → Closed line wanted old new status → (Rises old.faults new.faults → ⊥)
     → status ≡ wanted
 said_by line wanted old new status (said put) quiet = refl
 said_by line wanted old new status (unsaid front more rises) quiet = absurd (quiet rises)
 
-pub wants_memory : (refusal : Refusal) (old new : SinkSeen) (status : Status) → Refused refusal old new status → ¬ Rises old.faults new.faults
+pub wants_memory : (refusal : Refusal) (old new : SinkSeen) (status : Status) → Refused refusal old new status → (Rises old.faults new.faults → ⊥)
     → refusal ≡ refusals.OutOfMemory → status ≡ status_as.OutOfMemory
 wants_memory refusal old new status was quiet is = said_by _ (status_of refusal) old new status was quiet ∙ ap status_of is
 
-unopened_memory : (call : Call) (at : Option (List ℕ)) (fault : NetFault) (old new : NetSeen) (was is : SinkSeen) (status : Status)
-    → OpenFailed call at fault old new → Refused (refusal_of fault) was is status → ¬ Rises old.faults new.faults → ¬ Rises was.faults is.faults
+pub unopened_memory : (call : Call) (at : Option (List ℕ)) (fault : NetFault) (old new : NetSeen) (was is : SinkSeen) (status : Status)
+    → OpenFailed call at fault old new → Refused (refusal_of fault) was is status → (Rises old.faults new.faults → ⊥) → (Rises was.faults is.faults → ⊥)
     → status ≡ status_as.OutOfMemory
 unopened_memory call at faults.Failed old new was is status failed line net quiet = absurd (net failed.cause)
 unopened_memory call at faults.NoMemory old new was is status failed line net quiet = wants_memory refusals.OutOfMemory was is status line quiet refl
@@ -94,8 +94,8 @@ limit_is_met (Some plan) old new first left s =
 
 ended : (chain : Option Plan) (s : Served) (old mid new : NetSeen) (was is : SinkSeen) (first : Live) (left : Option Live) (status : Status)
     → WasServedAs chain s mid.state new.state (Some first) left → CountsOnce mid.faults new.faults mid.ends new.ends s → Told s was is status
-    → old.faults ≤ mid.faults → ¬ Rises old.faults new.faults → limit_met left ≡ false
-    → ((place byte : ℕ) → ¬ WasServedAs chain (Bad place byte) mid.state new.state (Some first) left) → status ≡ status_as.Clean
+    → old.faults ≤ mid.faults → (Rises old.faults new.faults → ⊥) → limit_met left ≡ false
+    → ((place byte : ℕ) → WasServedAs chain (Bad place byte) mid.state new.state (Some first) left → ⊥) → status ≡ status_as.Clean
 ended chain Quit old mid new was is first left status went counts told later net below good = told.1
 ended chain PeerEnded old mid new was is first left status went counts told later net below good = told.1
 ended chain (Bad place byte) old mid new was is first left status went counts told later net below good = absurd (good place byte went)

@@ -11,6 +11,7 @@ pub mod ElfRuns
 pub mod LimitFeeds
 pub mod LoopEnds
 pub mod NetEnds
+pub mod NetSuccesses
 mod Numbers
 pub mod Prepares
 pub mod Probes
