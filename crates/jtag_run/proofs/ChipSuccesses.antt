@@ -38,7 +38,7 @@ use Rattle.wire_session.specs.Seen.{SinkSeen}
 
 -- ---- whose job it is
 
-chip_of : Chip → JobValue → Chip
+abbrev chip_of : Chip → JobValue → Chip
 chip_of other (chip at image options chain) = record { at = at; image = image; options = options; chain = chain }
 chip_of other (both inputs options piece way) = other
 chip_of other (elf file script options piece) = other
@@ -51,7 +51,7 @@ chip_of other (sniff stream answers waves) = other
 same_job : (words : List (List ℕ)) (a b : Chip) → job_of words ≡ Some (said_chip a) → job_of words ≡ Some (said_chip b) → a ≡ b
 same_job words a b p q = ap (chip_of a) (same_Some (said_chip a) (said_chip b) (sym p ∙ q))
 
-serves : JobValue → Bool
+abbrev serves : JobValue → Bool
 serves (chip at image options chain) = true
 serves (both inputs options piece way) = false
 serves (elf file script options piece) = false

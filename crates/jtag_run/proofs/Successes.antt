@@ -86,10 +86,10 @@ told_there (Some x) there = (x, refl)
 over_net_by : (sequel : Sequel) (mid net_is : NetSeen) (old behind new : SinkSeen) (closed : End) (status : Status) → StaysQuiet mid net_is
     → OnNetBy sequel mid net_is old behind closed → ClosedBy closed false behind new status → old.faults ≤ behind.faults → (Rises old.faults new.faults → ⊥)
     → EndsOver net_is status
-over_net_by sequel mid net_is old behind new closed status quiet ran told later put =
+over_net_by sequel mid net_is old behind new closed status quiet went told later put =
     let there : (f : Far) × (mid.state.chip ≡ Some f) = told_there mid.state.chip quiet.tells in
-    over_net sequel there.0 mid net_is old behind closed status ran there.1 quiet
-    (not_sink closed false old behind new status ran.session.sink_cause told put)
+    over_net sequel there.0 mid net_is old behind closed status went there.1 quiet
+    (not_sink closed false old behind new status went.session.sink_cause told put)
     (λ far may. status_by closed false (Some far) old.faults behind new status refl may told later put)
 
 script_over_net : (at : List ℕ) (chain : Option Plan) (script : List Command) (net_was net_is : NetSeen) (old new : SinkSeen) (status : Status)
@@ -99,16 +99,16 @@ script_over_net at (Some plan) script net_was net_is old new status ended is_alo
 script_over_net at None script net_was net_is old new status (alone some there same line) is_alone net put quiet = absurd (false≢true some)
 script_over_net at None script net_was net_is old new status (unopened fault failed line) is_alone net put quiet =
     inl (unopened_memory calls.Connect (Some at) fault net_was net_is old new status failed line net put)
-script_over_net at None script net_was net_is old new status (opened mid closed behind connected later ran told) is_alone net put quiet =
-    inr (over_net_by (of_script script) mid net_is old behind new closed status (quiet mid connected) ran told later put)
+script_over_net at None script net_was net_is old new status (opened mid closed behind connected later went told) is_alone net put quiet =
+    inr (over_net_by (of_script script) mid net_is old behind new closed status (quiet mid connected) went told later put)
 
 elf_over_net : (at file : List ℕ) (script : List Command) (net_was net_is : NetSeen) (old new : SinkSeen) (status : Status)
     → ProbeElfEnd at file script net_was net_is old new status → (Rises net_was.faults net_is.faults → ⊥) → (Rises old.faults new.faults → ⊥)
     → ((mid : NetSeen) → ConnectedAt at net_was mid → StaysQuiet mid net_is) → (status ≡ status_as.OutOfMemory) ⊎ EndsOver net_is status
 elf_over_net at file script net_was net_is old new status (elf_unopened fault failed line) net put quiet =
     inl (unopened_memory calls.Connect (Some at) fault net_was net_is old new status failed line net put)
-elf_over_net at file script net_was net_is old new status (elf_opened mid closed behind connected later ran told) net put quiet =
-    inr (over_net_by (of_elf file script) mid net_is old behind new closed status (quiet mid connected) ran told later put)
+elf_over_net at file script net_was net_is old new status (elf_opened mid closed behind connected later went told) net put quiet =
+    inr (over_net_by (of_elf file script) mid net_is old behind new closed status (quiet mid connected) went told later put)
 
 net_succeeds_by : (words : List (List ℕ)) (old new : Outside) (left : Option Live) (status : Status) → Ran words old new left status
     → ProbeSucceeds words old new status
