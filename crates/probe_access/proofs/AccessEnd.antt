@@ -18,7 +18,7 @@ use Rattle.probe_access.proofs.Along.{did_untold}
 use Rattle.probe_access.proofs.Aside.{accessed, passed}
 use Rattle.probe_access.proofs.ReadyTurns.{BoardReady, Passed, board_ready_turns, passed_turns}
 use Rattle.probe_access.proofs.ReadyUnit.{unit_of}
-use Rattle.probe_access.proofs.RegAnswers.{StoodTold, read_untold, stood_board, stood_selects, stood_unit}
+use Rattle.probe_access.proofs.RegAnswers.{StoodTold, saving_untold, stood_board, stood_selects, stood_unit}
 use Rattle.probe_access.proofs.RegClauses.{told_serving}
 use Rattle.probe_access.proofs.Turns.{hart_aside, stays_passed}
 
@@ -28,7 +28,7 @@ pub written_untold : (number value : ℕ) (old new : Tells) → RegisterWritten 
 written_untold number value old new r is = did_untold old _ new r.ran.did is
 
 pub saved_untold : (x8 x9 : ℕ) (old new : Tells) → Saved x8 x9 old new → old.far ≡ None → new.far ≡ None
-saved_untold x8 x9 old new s is = read_untold _ x9 s.mid new s.second (read_untold _ x8 old s.mid s.first is)
+saved_untold x8 x9 old new s is = saving_untold _ x9 s.mid new s.second (saving_untold _ x8 old s.mid s.first is)
 
 pub back_untold : (x8 x9 : ℕ) (old new : Tells) → PutBack x8 x9 old new → old.far ≡ None → new.far ≡ None
 back_untold x8 x9 old new s is = written_untold x9_number x9 s.mid new s.second (written_untold x8_number x8 old s.mid s.first is)

@@ -20,7 +20,7 @@ use Rattle.probe_access.proofs.Aside.{accessed, passed}
 use Rattle.probe_access.proofs.PerformTold.{ProgramTold, program_told}
 use Rattle.probe_access.proofs.PerformTold.ProgramTold.{faulted, went}
 use Rattle.probe_access.proofs.ReadyUnit.{Kept}
-use Rattle.probe_access.proofs.RegAnswers.{ReadTold, StoodTold, WrittenTold, front_stood, halves_joined, read_told, written_told}
+use Rattle.probe_access.proofs.RegAnswers.{ReadTold, StoodTold, WrittenTold, front_stood, halves_joined, saving_told, written_told}
 use Rattle.probe_access.proofs.RegisterTold.{Stood, WordPuts, double_puts, with_double}
 use Rattle.probe_access.proofs.RegisterTold.WordPuts.{and_then}
 use Rattle.probe_access.proofs.ScratchLemmas.{scratch_back, scratched, x8_value, x9_value}
@@ -41,8 +41,8 @@ held_as y number held value v is was same small =
 pub saved_told : (x8 x9 h : ℕ) (bus : BusUnit) (y : Hart) (base : Site) (w : Hart) (old new : Tells) → StoodTold h bus y base w old.far → Saved x8 x9 old new
     → SavedTold x8 x9 h bus y base w new.far
 saved_told x8 x9 h bus y base w old new st s =
-    let a : ReadTold x8_number x8 h bus y base w s.mid.far = read_told x8_number x8 h bus y base w old s.mid (record { small = omega arith; other = refl }) st s.first in
-    let b : ReadTold x9_number x9 h bus y base w new.far = read_told x9_number x9 h bus y base w s.mid new (record { small = omega arith; other = refl }) a.then s.second in
+    let a : ReadTold x8_number x8 h bus y base w s.mid.far = saving_told x8_number x8 h bus y base w old s.mid (record { small = omega arith; other = refl }) st s.first in
+    let b : ReadTold x9_number x9 h bus y base w new.far = saving_told x9_number x9 h bus y base w s.mid new (record { small = omega arith; other = refl }) a.then s.second in
     record {
       x8_is = held_as y x8_number a.held x8 (x_of y.core 8) (x8_value y) a.held_is a.value_is;
       x9_is = held_as y x9_number b.held x9 (x_of y.core 9) (x9_value y) b.held_is b.value_is;

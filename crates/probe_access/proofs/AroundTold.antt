@@ -18,7 +18,7 @@ use Rattle.probe_access.specs.MemoryRuns.AroundFailed.{behind, in_restore, in_re
 use Rattle.probe_access.specs.MemoryRuns.PerformFailed.{in_run, faulted, oddly}
 use Rattle.probe_access.specs.MemoryRuns.PutBackFailed.{at_x8 as put_x8, at_x9 as put_x9}
 use Rattle.probe_access.specs.MemoryRuns.SaveFailed.{at_x8 as save_x8, at_x9 as save_x9}
-use Rattle.probe_access.specs.RegisterRuns.{ReadFailed, WriteFailed, ReadApartFailed, Asks}
+use Rattle.probe_access.specs.RegisterRuns.{ReadFailed, SavingFailed, WriteFailed, ReadApartFailed, Asks}
 use Rattle.probe_access.specs.Registers.{reaches}
 use Rattle.probe_access.specs.RegisterAccess.{program_word, x8_number, x9_number}
 use Rattle.probe_access.proofs.Plain.{Plain}
@@ -31,7 +31,7 @@ use Rattle.probe_access.proofs.RegAnswers.{
   WrittenTold,
   read_denied,
   read_not_odd,
-  read_told,
+  saving_told,
   write_denied,
   write_not_odd,
   written_told,
@@ -80,6 +80,14 @@ read_clean number h bus y base w old_count new_count old new e small there st (R
 read_clean number h bus y base w old_count new_count old new e small there st (ReadFailed.late mid early f) =
     apart_clean number h bus y base w old_count new_count mid new e small there (too_early_told number h bus y base w old mid small st early) f
 
+saving_clean : (number h : ℕ) (bus : BusUnit) (y : Hart) (base : Site) (w : Hart) (old_count new_count : ℕ) (old new : Tells) (e : AccessFault)
+    → Plain number → reaches false y number ≡ true → StoodTold h bus y base w old.far
+    → SavingFailed number old_count new_count old new e → Clean e
+saving_clean number h bus y base w old_count new_count old new e small there st (SavingFailed.reading f) =
+    read_clean number h bus y base w old_count new_count old new e small there st f
+saving_clean number h bus y base w old_count new_count old new e small there st (SavingFailed.apart f) =
+    apart_clean number h bus y base w old_count new_count old new e small there st f
+
 pub write_clean : (number value h : ℕ) (bus : BusUnit) (y : Hart) (base : Site) (w : Hart) (old_count new_count : ℕ) (old new : Tells) (e : AccessFault)
     → number < 2 ^ 16 → reaches true y number ≡ true → StoodTold h bus y base w old.far
     → WriteFailed number value old_count new_count old new e → Clean e
@@ -113,10 +121,10 @@ writes_x9 y = refl
 pub save_clean : (h : ℕ) (bus : BusUnit) (y : Hart) (base : Site) (w : Hart) (old_count new_count : ℕ) (old new : Tells) (e : AccessFault)
     → StoodTold h bus y base w old.far → SaveFailed old_count new_count old new e → Clean e
 save_clean h bus y base w old_count new_count old new e st (save_x8 f) =
-    read_clean x8_number h bus y base w old_count new_count old new e (record { small = omega arith; other = refl }) (reads_x8 y) st f
+    saving_clean x8_number h bus y base w old_count new_count old new e (record { small = omega arith; other = refl }) (reads_x8 y) st f
 save_clean h bus y base w old_count new_count old new e st (save_x9 x8 mid r f) =
-    let a : ReadTold x8_number x8 h bus y base w mid.far = read_told x8_number x8 h bus y base w old mid (record { small = omega arith; other = refl }) st r in
-    read_clean x9_number h bus y base w old_count new_count mid new e (record { small = omega arith; other = refl }) (reads_x9 y) a.then f
+    let a : ReadTold x8_number x8 h bus y base w mid.far = saving_told x8_number x8 h bus y base w old mid (record { small = omega arith; other = refl }) st r in
+    saving_clean x9_number h bus y base w old_count new_count mid new e (record { small = omega arith; other = refl }) (reads_x9 y) a.then f
 
 pub put_back_clean : (x8 x9 h : ℕ) (bus : BusUnit) (y : Hart) (base : Site) (w : Hart) (old_count new_count : ℕ) (old new : Tells) (e : AccessFault)
     → StoodTold h bus y base w old.far → PutBackFailed x8 x9 old_count new_count old new e → Clean e

@@ -9,7 +9,7 @@ use Rattle.probe_access.specs.MemoryRuns.AroundFailed.{behind, in_restore, in_re
 use Rattle.probe_access.specs.MemoryRuns.PerformFailed.{in_run, faulted, oddly}
 use Rattle.probe_access.specs.MemoryRuns.PutBackFailed.{at_x8 as put_x8, at_x9 as put_x9}
 use Rattle.probe_access.specs.MemoryRuns.SaveFailed.{at_x8 as save_x8, at_x9 as save_x9}
-use Rattle.probe_access.specs.RegisterRuns.{ReadFailed, WriteFailed, ReadApartFailed, Asks, Swaps}
+use Rattle.probe_access.specs.RegisterRuns.{ReadFailed, SavingFailed, WriteFailed, ReadApartFailed, Asks, Swaps}
 use Rattle.probe_access.specs.RegisterAccess.{program_word, x8_number, x9_number}
 use Rattle.probe_access.proofs.AccessEnd.{back_untold, performed_untold, saved_untold}
 use Rattle.debug_model.specs.declared.dmi_op.DmiOp.{DmiOp}
@@ -46,6 +46,11 @@ read_plain number address G old_count new_count old new e (ReadFailed.asking f) 
 read_plain number address G old_count new_count old new e (ReadFailed.late mid early f) =
     apart_plain number address G old_count new_count mid new e f
 
+saving_plain : (number address : ℕ) (G : Type 0) (old_count new_count : ℕ) (old new : Tells) (e : AccessFault)
+    → SavingFailed number old_count new_count old new e → PlainMemory address G e
+saving_plain number address G old_count new_count old new e (SavingFailed.reading f) = read_plain number address G old_count new_count old new e f
+saving_plain number address G old_count new_count old new e (SavingFailed.apart f) = apart_plain number address G old_count new_count old new e f
+
 pub write_plain : (number value address : ℕ) (G : Type 0) (old_count new_count : ℕ) (old new : Tells) (e : AccessFault)
     → WriteFailed number value old_count new_count old new e → PlainMemory address G e
 write_plain number value address G old_count new_count old new (access_fault.Dmi why) f = tt
@@ -74,8 +79,8 @@ command_plain front word address G old_count new_count old new (access_fault.Odd
 
 pub save_plain : (address : ℕ) (G : Type 0) (old_count new_count : ℕ) (old new : Tells) (e : AccessFault) → SaveFailed old_count new_count old new e
     → PlainMemory address G e
-save_plain address G old_count new_count old new e (save_x8 f) = read_plain x8_number address G old_count new_count old new e f
-save_plain address G old_count new_count old new e (save_x9 x8 mid r f) = read_plain x9_number address G old_count new_count mid new e f
+save_plain address G old_count new_count old new e (save_x8 f) = saving_plain x8_number address G old_count new_count old new e f
+save_plain address G old_count new_count old new e (save_x9 x8 mid r f) = saving_plain x9_number address G old_count new_count mid new e f
 
 pub put_back_plain : (x8 x9 address : ℕ) (G : Type 0) (old_count new_count : ℕ) (old new : Tells) (e : AccessFault)
     → PutBackFailed x8 x9 old_count new_count old new e → PlainMemory address G e

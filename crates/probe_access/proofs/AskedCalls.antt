@@ -19,9 +19,9 @@ use Rattle.probe_access.specs.AskedRuns.{Again, Asked, AskedFailed, AskedOnce, A
 use Rattle.probe_access.specs.CommandRuns.{EndFailed, EndedFrom, error_shown, poll_act}
 use Rattle.probe_access.specs.RegisterAccess.{next_word, x8_number}
 use Rattle.rv_model.specs.declared.size.Size.{Size}
-use Rattle.probe_access.specs.RegisterRuns.{ReadFailed, RegisterRead}
+use Rattle.probe_access.specs.RegisterRuns.{ReadApartFailed, ReadApart}
 use Rattle.probe_access.proofs.AskCalls.{behind_counted, ended_behind, failed_behind, together_broke}
-use Rattle.probe_access.proofs.Counted.{read_counted}
+use Rattle.probe_access.proofs.Counted.{apart_counted}
 use Rattle.probe_access.specs.AskedRuns.AskedFailed.{in_switch}
 use Rattle.probe_access.proofs.RegisterCalls.{broke_counted, word_broke, word_put}
 use Rattle.probe_run.proofs.ActLemmas.{did_list, did_together}
@@ -231,7 +231,7 @@ pub fell_counted : (size : Size) (address n more count mid_count new_count : ℕ
 fell_counted size address n more count mid_count new_count old new _ le later (RunFell.asking e looks f) =
     RunFell.asking e looks (asked_counted looks more count mid_count new_count old new e le later f)
 fell_counted size address n more count mid_count new_count old new _ le later (RunFell.finding e last mid a f) =
-    RunFell.finding e last mid a (read_counted x8_number count mid_count new_count mid new e le later f)
+    RunFell.finding e last mid a (apart_counted x8_number count mid_count new_count mid new e le later f)
 fell_counted size address n more count mid_count new_count old new _ le later (RunFell.refused found last mid a error least most r) =
     RunFell.refused found last mid a error least most r
 fell_counted size address n more count mid_count new_count old new _ le later (RunFell.oddly shown last is a none one three) =
@@ -240,20 +240,20 @@ fell_counted size address n more count mid_count new_count old new _ le later (R
     RunFell.misplaced shown last x8 mid is a which r un
 
 pub fell_finding : (size : Size) (address n more last count mid_count new_count : ℕ) (old mid new : Tells) (e : AccessFault) → Asked more last old mid
-    → count ≤ mid_count → mid_count ≤ new_count → ReadFailed x8_number mid_count new_count mid new e → RunFell size address n more count new_count old new e
+    → count ≤ mid_count → mid_count ≤ new_count → ReadApartFailed x8_number mid_count new_count mid new e → RunFell size address n more count new_count old new e
 fell_finding size address n more last count mid_count new_count old mid new e a le later f =
-    RunFell.finding e last mid a (read_counted x8_number count mid_count new_count mid new e le later f)
+    RunFell.finding e last mid a (apart_counted x8_number count mid_count new_count mid new e le later f)
 
 pub which_error : (last cmderr : ℕ) → cmderr ≡ error_shown last → (cmderr ≡ 1) ⊎ (cmderr ≡ 3) → (error_shown last ≡ 1) ⊎ (error_shown last ≡ 3)
 which_error last cmderr is which = subst (λ n. (n ≡ 1) ⊎ (n ≡ 3)) is which
 
 pub end_fell : (size : Size) (address n more last x8 count new_count : ℕ) (old mid new : Tells) (e : AccessFault) → Asked more last old mid
-    → (error_shown last ≡ 1) ⊎ (error_shown last ≡ 3) → RegisterRead x8_number x8 mid new → EndFell size address n more last x8 e
+    → (error_shown last ≡ 1) ⊎ (error_shown last ≡ 3) → ReadApart x8_number x8 mid new → EndFell size address n more last x8 e
     → RunFell size address n more count new_count old new e
 end_fell size address n more last x8 count new_count old mid new (access_fault.Dmi why) a which r f = absurd f
 end_fell size address n more last x8 count new_count old mid new (access_fault.Memory at) a which r f =
     subst (λ m. RunFell size address n more count new_count old new (access_fault.Memory m)) (sym f.5)
-    (RunFell.refused f.0 last mid a f.3 f.1 f.2 (subst (λ v. RegisterRead x8_number v mid new) f.4 r))
+    (RunFell.refused f.0 last mid a f.3 f.1 f.2 (subst (λ v. ReadApart x8_number v mid new) f.4 r))
 end_fell size address n more last x8 count new_count old mid new (access_fault.Register number) a which r f = absurd f
 end_fell size address n more last x8 count new_count old mid new access_fault.StillBusy a which r f = absurd f
 end_fell size address n more last x8 count new_count old mid new (access_fault.Run why) a which r f = absurd f

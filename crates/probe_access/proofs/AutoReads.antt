@@ -101,7 +101,7 @@ load_decided e given v y base m f d below =
     subst (λ z. WordDid (NextLoads e given z) (NextRefuses e given) (element_load_word e.size) z m) (sym is)
     (load_decides e.size e.address e.count (length given + 1) v e.x e.s m f.block below (subst Frozen is d.frozen))
 
-load_rests : (c : Cmderr) (e : LoadRun) (given : List ℕ) (v : ℕ) (y : Hart) (base : Site) (k : Kept) → RunFits e → LoadDone e given v y base
+pub load_rests : (c : Cmderr) (e : LoadRun) (given : List ℕ) (v : ℕ) (y : Hart) (base : Site) (k : Kept) → RunFits e → LoadDone e given v y base
     → length given + 1 < e.count → IsLoad e k
     → NextRunning by_data0 c (NextLoads e given y) (NextRefuses e given) e.size (begun k) (handed y k) e.h e.bus y base e.x
 load_rests c e given v y base k f d below program = record {
@@ -311,12 +311,12 @@ early_data1 : (k : Kept) (h : ℕ) (bus : BusUnit) (y : Hart) (z : Site) (m : Mi
 unfolding register_at
 early_data1 k h bus y z m ms = refl
 
-fine_data1 : (k : Kept) (h : ℕ) (bus : BusUnit) (y : Hart) (z : Site)
+pub fine_data1 : (k : Kept) (h : ℕ) (bus : BusUnit) (y : Hart) (z : Site)
     → operated (Read data1_address) (aside (automatic Fine k h bus) h y z) ≡ aside (automatic Fine k h bus) h y z
 unfolding register_at
 fine_data1 k h bus y z = refl
 
-shown_data1 : (k : Kept) (h : ℕ) (bus : BusUnit) (y : Hart) (z : Site) → result_of data1_address (aside (automatic Fine k h bus) h y z) ≡ k.data1
+pub shown_data1 : (k : Kept) (h : ℕ) (bus : BusUnit) (y : Hart) (z : Site) → result_of data1_address (aside (automatic Fine k h bus) h y z) ≡ k.data1
 unfolding register_at
 shown_data1 k h bus y z = refl
 
@@ -371,7 +371,7 @@ upper_read e given high s t f below r at =
 
 -- ---- the lower word, which starts the next command
 
-starts_again : (k : Kept) (h : ℕ) (bus : BusUnit) (y : Hart) (z : Site) (w : Hart) → HartAt h z w → Frozen y
+pub starts_again : (k : Kept) (h : ℕ) (bus : BusUnit) (y : Hart) (z : Site) (w : Hart) → HartAt h z w → Frozen y
     → operated (Read data0_address) (aside (automatic Fine k h bus) h y z)
     ≡ aside (going by_data0 Fine (begun k) (all_next (begun k)) h bus) h y z
 unfolding register_at
@@ -379,7 +379,7 @@ starts_again k h bus y z w here f =
     ap (λ (o : Option Hart). aside (started (refusal o next_command) k h bus) h y z) (hart_aside (automatic Fine k h bus) h y z w here)
     ∙ ap (λ c. aside (started c k h bus) h y z) (next_starts y f)
 
-shown_data0 : (k : Kept) (h : ℕ) (bus : BusUnit) (y : Hart) (z : Site) → result_of data0_address (aside (automatic Fine k h bus) h y z) ≡ k.data0
+pub shown_data0 : (k : Kept) (h : ℕ) (bus : BusUnit) (y : Hart) (z : Site) → result_of data0_address (aside (automatic Fine k h bus) h y z) ≡ k.data0
 unfolding register_at
 shown_data0 k h bus y z = refl
 

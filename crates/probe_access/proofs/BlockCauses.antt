@@ -16,7 +16,7 @@ use Rattle.probe_access.specs.MemoryRuns.{AroundFailed, PutBack, PutBackFailed, 
 use Rattle.probe_access.specs.MemoryRuns.AroundFailed.{behind, in_restore, in_restore_behind, in_save, inside}
 use Rattle.probe_access.specs.MemoryRuns.PutBackFailed.{at_x8 as put_x8, at_x9 as put_x9}
 use Rattle.probe_access.specs.MemoryRuns.SaveFailed.{at_x8 as save_x8, at_x9 as save_x9}
-use Rattle.probe_access.specs.RegisterRuns.{RanOddly, RanTo, ReadFailed, RegisterRead, RegisterWritten, WriteFailed, double_written, Asks}
+use Rattle.probe_access.specs.RegisterRuns.{RanOddly, RanTo, ReadFailed, RegisterRead, RegisterSaved, RegisterWritten, SavingFailed, WriteFailed, double_written, Asks}
 use Rattle.probe_access.specs.RegisterRuns.{DoubleRead, ReadApart, ReadApartFailed, ReadApartFailedAt, ReadAtOnce, ReadTooEarly}
 use Rattle.probe_access.specs.RegisterRuns.ReadApartFailedAt.{in_command as read_in_command, in_words as read_in_words}
 use Rattle.probe_access.specs.RegisterAccess.{joined, transfer_word, x8_number, x9_number}
@@ -48,11 +48,15 @@ pub read_calls : (number value : ℕ) (a b : Tells) → RegisterRead number valu
 read_calls number value a b (RegisterRead.at_once r) = calls _ a b r.ended.did
 read_calls number value a b (RegisterRead.late mid early r) = calls_then a mid b (early_calls number a mid early) (apart_calls number value mid b r)
 
+pub saving_calls : (number value : ℕ) (a b : Tells) → RegisterSaved number value a b → Calls a b
+saving_calls number value a b (RegisterSaved.read r) = read_calls number value a b r
+saving_calls number value a b (RegisterSaved.apart r) = apart_calls number value a b r
+
 pub written_calls : (number value : ℕ) (a b : Tells) → RegisterWritten number value a b → Calls a b
 written_calls number value a b r = calls _ a b r.ran.did
 
 pub saved_calls : (x8 x9 : ℕ) (a b : Tells) → Saved x8 x9 a b → Calls a b
-saved_calls x8 x9 a b s = calls_then a s.mid b (read_calls x8_number x8 a s.mid s.first) (read_calls x9_number x9 s.mid b s.second)
+saved_calls x8 x9 a b s = calls_then a s.mid b (saving_calls x8_number x8 a s.mid s.first) (saving_calls x9_number x9 s.mid b s.second)
 
 pub back_calls : (x8 x9 : ℕ) (a b : Tells) → PutBack x8 x9 a b → Calls a b
 back_calls x8 x9 a b s = calls_then a s.mid b (written_calls x8_number x8 a s.mid s.first) (written_calls x9_number x9 s.mid b s.second)
@@ -275,6 +279,11 @@ read_causes number count new_count a b e later (ReadFailed.asking f) = behind_ca
 read_causes number count new_count a b e later (ReadFailed.late mid early f) =
     causes_same a mid b (early_calls number a mid early) count new_count e later (apart_causes number count new_count mid b e later f)
 
+saving_causes : (number count new_count : ℕ) (a b : Tells) (e : AccessFault) → LinkLater count new_count e → SavingFailed number count new_count a b e
+    → Causes count new_count a b e
+saving_causes number count new_count a b e later (SavingFailed.reading f) = read_causes number count new_count a b e later f
+saving_causes number count new_count a b e later (SavingFailed.apart f) = apart_causes number count new_count a b e later f
+
 pub write_causes : (number value count new_count : ℕ) (a b : Tells) (e : AccessFault) → LinkLater count new_count e
     → WriteFailed number value count new_count a b e → Causes count new_count a b e
 write_causes number value count new_count a b (access_fault.Dmi why) later f =
@@ -288,9 +297,9 @@ write_causes number value count new_count a b (access_fault.Odd shown) later f =
 
 save_causes : (count new_count : ℕ) (a b : Tells) (e : AccessFault) → LinkLater count new_count e → SaveFailed count new_count a b e
     → Causes count new_count a b e
-save_causes count new_count a b e later (save_x8 f) = read_causes x8_number count new_count a b e later f
+save_causes count new_count a b e later (save_x8 f) = saving_causes x8_number count new_count a b e later f
 save_causes count new_count a b e later (save_x9 x8 mid r f) =
-    causes_same a mid b (read_calls x8_number x8 a mid r) count new_count e later (read_causes x9_number count new_count mid b e later f)
+    causes_same a mid b (saving_calls x8_number x8 a mid r) count new_count e later (saving_causes x9_number count new_count mid b e later f)
 
 back_causes : (x8 x9 count new_count : ℕ) (a b : Tells) (e : AccessFault) → LinkLater count new_count e → PutBackFailed x8 x9 count new_count a b e
     → Causes count new_count a b e
@@ -380,7 +389,7 @@ ran_fetched wide word value values old mid ended new f ran read =
           ran.error_is lower_first);
     }
 
-apart_fetched : (wide : Bool) (number value : ℕ) (values : List ℕ) (old mid new : Tells) → Fetched wide values old mid → ReadApart number value mid new
+pub apart_fetched : (wide : Bool) (number value : ℕ) (values : List ℕ) (old mid new : Tells) → Fetched wide values old mid → ReadApart number value mid new
     → Fetched wide (values ++ value ∷ []) old new
 apart_fetched wide number value values old mid new f r =
     ran_fetched wide (transfer_word false number) value values old mid r.mid new f r.ran r.words

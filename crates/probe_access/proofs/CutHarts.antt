@@ -23,7 +23,7 @@ use Rattle.probe_access.specs.MemoryRuns.{PutBackFailed, SaveFailed}
 use Rattle.probe_access.specs.MemoryRuns.PutBackFailed.{at_x8 as put_x8, at_x9 as put_x9}
 use Rattle.probe_access.specs.MemoryRuns.SaveFailed.{at_x8 as save_x8, at_x9 as save_x9}
 use Rattle.probe_access.specs.Faults.{Among, BrokeIn}
-use Rattle.probe_access.specs.RegisterRuns.{DoubleReads, ReadFailed, ReadApartFailedAt, WriteFailed, double_written, ReadApartFailed}
+use Rattle.probe_access.specs.RegisterRuns.{DoubleReads, ReadFailed, SavingFailed, ReadApartFailedAt, WriteFailed, double_written, ReadApartFailed}
 use Rattle.probe_access.specs.RegisterRuns.DoubleReads.{lower as low_read, upper as high_read}
 use Rattle.probe_access.specs.RegisterRuns.ReadApartFailedAt.{in_command as read_in_command, in_words as read_in_words}
 use Rattle.probe_access.specs.RegisterAccess.{transfer_command, transfer_word, x8_number, x9_number}
@@ -34,7 +34,7 @@ use Rattle.probe_access.proofs.CutSites.{CommandCutAt, CommandCutTold, CutAt, Cu
 use Rattle.probe_access.proofs.CutSites.CommandCutAt.{unsent, sent, ended}
 use Rattle.probe_access.proofs.Plain.{Plain, Transferable, small_number}
 use Rattle.probe_access.proofs.ReadyUnit.{Held, Kept, commands_of, done_ran, unit_of, unit_with}
-use Rattle.probe_access.proofs.RegAnswers.{CommandTold, ReadTold, StoodTold, WrittenTold, command_told, halves_joined, read_told, written_told, too_early_told}
+use Rattle.probe_access.proofs.RegAnswers.{CommandTold, ReadTold, StoodTold, WrittenTold, command_told, halves_joined, saving_told, written_told, too_early_told}
 use Rattle.probe_access.proofs.RegisterTold.{Stood, TransferTold, WordPuts, double_puts, error_cleared, got_at, with_double, Rests}
 use Rattle.probe_access.proofs.RegisterTold.WordPuts.{no_more}
 use Rattle.probe_access.proofs.RegisterTold.TransferTold.{taken, denied}
@@ -221,6 +221,14 @@ read_hung number h bus y base w old_count new_count old new e small st (ReadFail
 read_hung number h bus y base w old_count new_count old new e small st (ReadFailed.late mid early f) =
     apart_hung number h bus y base w old_count new_count mid new e small (too_early_told number h bus y base w old mid small st early) f
 
+saving_hung : (number h : ℕ) (bus : BusUnit) (y : Hart) (base : Site) (w : Hart) (old_count new_count : ℕ) (old new : Tells) (e : AccessFault)
+    → Plain number → StoodTold h bus y base w old.far → SavingFailed number old_count new_count old new e
+    → IfCut (Hung (λ z. z ≡ y) h bus base new.far) e
+saving_hung number h bus y base w old_count new_count old new e small st (SavingFailed.reading f) =
+    read_hung number h bus y base w old_count new_count old new e small st f
+saving_hung number h bus y base w old_count new_count old new e small st (SavingFailed.apart f) =
+    apart_hung number h bus y base w old_count new_count old new e small st f
+
 -- ---- a register that is written
 
 abbrev pub Written : ℕ → ℕ → Hart → Hart → Type 0
@@ -256,10 +264,10 @@ write_hung number value h bus y base w old_count new_count old new (access_fault
 
 pub save_hung : (h : ℕ) (bus : BusUnit) (y : Hart) (base : Site) (w : Hart) (old_count new_count : ℕ) (old new : Tells) (e : AccessFault)
     → StoodTold h bus y base w old.far → SaveFailed old_count new_count old new e → IfCut (Hung (λ z. z ≡ y) h bus base new.far) e
-save_hung h bus y base w old_count new_count old new e st (save_x8 f) = read_hung x8_number h bus y base w old_count new_count old new e (record { small = omega arith; other = refl }) st f
+save_hung h bus y base w old_count new_count old new e st (save_x8 f) = saving_hung x8_number h bus y base w old_count new_count old new e (record { small = omega arith; other = refl }) st f
 save_hung h bus y base w old_count new_count old new e st (save_x9 x8 mid r f) =
-    let a : ReadTold x8_number x8 h bus y base w mid.far = read_told x8_number x8 h bus y base w old mid (record { small = omega arith; other = refl }) st r in
-    read_hung x9_number h bus y base w old_count new_count mid new e (record { small = omega arith; other = refl }) a.then f
+    let a : ReadTold x8_number x8 h bus y base w mid.far = saving_told x8_number x8 h bus y base w old mid (record { small = omega arith; other = refl }) st r in
+    saving_hung x9_number h bus y base w old_count new_count mid new e (record { small = omega arith; other = refl }) a.then f
 
 -- neither was written, or the first, or both
 abbrev pub PutBack : ℕ → ℕ → Hart → Hart → Type 0

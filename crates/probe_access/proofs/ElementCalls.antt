@@ -23,13 +23,13 @@ use Rattle.probe_access.specs.ElementRuns.{block_program}
 use Rattle.probe_access.specs.ElementRuns.RunFailed.{in_run, faulted, oddly}
 use Rattle.probe_access.specs.Faults.{Among, BrokeIn}
 use Rattle.probe_access.specs.AskedRuns.{Switching}
-use Rattle.probe_access.specs.ReadRuns.{is_wide, AskLoadsFailed, ReadFront, RunLoadsFailed}
+use Rattle.probe_access.specs.ReadRuns.{is_wide, AskLoadsFailed, AwaitingFailed, ElementFront, ReadFront, RunLoadsFailed}
 use Rattle.probe_access.specs.RegisterAccess.{advance_word, ebreak_word, element_load_word, next_word, x8_number, x9_number}
 use Rattle.probe_access.proofs.AskCalls.{behind_counted}
-use Rattle.probe_access.proofs.Counted.{apart_counted, command_counted, read_counted, write_counted}
+use Rattle.probe_access.proofs.Counted.{apart_counted, command_counted, write_counted}
 use Rattle.probe_access.proofs.RegisterCalls.{broke_counted, many_broke, sent_acts, two_small}
 use Rattle.probe_access.proofs.SentCalls.{none_vain}
-use Rattle.probe_access.specs.RegisterRuns.{DoubleReads, ReadFailed, RegisterRead}
+use Rattle.probe_access.specs.RegisterRuns.{DoubleReads, ReadApartFailed, ReadApart}
 use Rattle.probe_run.proofs.ActLemmas.{did_list, did_together}
 
 -- ---- the program and the first command
@@ -147,11 +147,22 @@ ask_loads_counted wide looks more count mid_count new_count old new e le later (
 ask_loads_counted wide looks more count mid_count new_count old new e le later (AskLoadsFailed.in_switch front last mid begins r why is f) =
     AskLoadsFailed.in_switch front last mid begins r why is (broke_counted Switching count mid_count new_count mid new.far why le later f)
 
+awaiting_counted : (wide : Bool) (most count mid_count new_count : ℕ) (old new : Tells) (e : AccessFault) → count ≤ mid_count → mid_count ≤ new_count
+    → AwaitingFailed wide most mid_count new_count old new e → AwaitingFailed wide most count new_count old new e
+awaiting_counted wide most count mid_count new_count old new e le later (AwaitingFailed.asking looks more few f) =
+    AwaitingFailed.asking looks more few (ask_loads_counted wide looks more count mid_count new_count old new e le later f)
+awaiting_counted wide most count mid_count new_count old new e le later (AwaitingFailed.reading read last mid below r fine f) =
+    AwaitingFailed.reading read last mid below r fine (behind_counted (ElementFront wide) _ _ count mid_count new_count mid new e le later f)
+
 pub run_loads_counted : (size : Size) (address block handed : ℕ) (values : List ℕ) (count mid_count new_count : ℕ) (old new : Tells) (e : AccessFault)
     → count ≤ mid_count → mid_count ≤ new_count → RunLoadsFailed size address block handed values mid_count new_count old new e
     → RunLoadsFailed size address block handed values count new_count old new e
 run_loads_counted size address block handed values count mid_count new_count old new _ le later (RunLoadsFailed.asking e looks more none within f) =
     RunLoadsFailed.asking e looks more none within (ask_loads_counted (is_wide size) looks more count mid_count new_count old new e le later f)
+run_loads_counted size address block handed values count mid_count new_count old new _ le later (RunLoadsFailed.awaiting e most none within f) =
+    RunLoadsFailed.awaiting e most none within (awaiting_counted (is_wide size) most count mid_count new_count old new e le later f)
+run_loads_counted size address block handed values count mid_count new_count old new _ le later
+    (RunLoadsFailed.awaited_oddly shown read last is none within a fine fault) = RunLoadsFailed.awaited_oddly shown read last is none within a fine fault
 run_loads_counted size address block handed values count mid_count new_count old new _ le later (RunLoadsFailed.in_words why read last mid none within a f) =
     RunLoadsFailed.in_words why read last mid none within a (broke_counted (Among DoubleReads) count mid_count new_count mid new.far why le later f)
 run_loads_counted size address block handed values count mid_count new_count old new _ le later
@@ -178,7 +189,7 @@ loads_counted size address block values count mid_count new_count old new _ le l
 loads_counted size address block values count mid_count new_count old new _ le later (LoadsFailed.refused front last mid are below on r) =
     LoadsFailed.refused front last mid are below on r
 loads_counted size address block values count mid_count new_count old new _ le later (LoadsFailed.in_last e mid all on f) =
-    LoadsFailed.in_last e mid all on (read_counted x9_number count mid_count new_count mid new e le later f)
+    LoadsFailed.in_last e mid all on (apart_counted x9_number count mid_count new_count mid new e le later f)
 
 -- as the code names the instruction and the address
 pub start_as : (word named : ℕ) (size : Size) (address count mid_count new_count : ℕ) (old new : Tells) (e : AccessFault) → named ≡ word → count ≤ mid_count
@@ -228,9 +239,9 @@ hand_more size address block value refused front values old mid new are is on h 
 
 pub last_stops : (size : Size) (address block count mid_count new_count : ℕ) (values : List ℕ) (old mid new : Tells) (e : AccessFault)
     → length values + 1 ≡ block → LoadsOn size address block old values mid → count ≤ mid_count → mid_count ≤ new_count
-    → ReadFailed x9_number mid_count new_count mid new e → LoadsFailed size address block values count new_count old new e
+    → ReadApartFailed x9_number mid_count new_count mid new e → LoadsFailed size address block values count new_count old new e
 last_stops size address block count mid_count new_count values old mid new e all on le later f =
-    LoadsFailed.in_last e mid all on (read_counted x9_number count mid_count new_count mid new e le later f)
+    LoadsFailed.in_last e mid all on (apart_counted x9_number count mid_count new_count mid new e le later f)
 
 pub none_on : (word : ℕ) (size : Size) (address block : ℕ) (values : List ℕ) (old new : Tells) → values ≡ [] → word ≡ element_load_word size
     → Started word size address old new → LoadsOn size address block old values new
@@ -242,7 +253,7 @@ pub none_counted : (values : List ℕ) → values ≡ [] → length values + 1 �
 none_counted values none = let n : length values ≡ 0 = ap length none in omega (arith, n)
 
 pub last_on : (size : Size) (address block value : ℕ) (front values : List ℕ) (old mid new : Tells) → values ≡ front ++ value ∷ []
-    → length front + 1 ≡ block → LoadsOn size address block old front mid → RegisterRead x9_number value mid new → LoadsInside size address block values old new
+    → length front + 1 ≡ block → LoadsOn size address block old front mid → ReadApart x9_number value mid new → LoadsInside size address block values old new
 last_on size address block value front values old mid new are all on read = record {
   all = ap length are ∙ length-append front (value ∷ []) ∙ all;
   front = front;

@@ -70,10 +70,13 @@ pub mod StoreEnds
 pub mod LoadPlaces
 pub mod AutoReads
 pub mod ReadEnds
+pub mod AwaitedOn
 pub mod ReadPlaces
 pub mod LoadEnds
 pub mod LoadHangs
 pub mod ReadCuts
+pub mod AwaitedCuts
+pub mod ReadHangs
 pub mod ReadCalls
 pub mod StoreBlockClauses
 pub mod LoadBlockClauses
@@ -87,6 +90,8 @@ pub mod StoreBlockCalls
 pub mod BlockCauses
 pub mod ElementCalls
 pub mod ReadHands
+pub mod AwaitedCalls
+pub mod AwaitedHands
 pub mod StoreRunCalls
 pub mod CutSites
 pub mod CutHung
@@ -139,3 +144,5 @@ pub mod BusStoreAwaitTold
 pub mod BusStoreAwaitCuts
 pub mod BusStoreAwaitFaults
 pub mod StepRises
+pub mod Spending
+pub mod LoadBudget

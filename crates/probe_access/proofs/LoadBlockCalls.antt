@@ -17,9 +17,10 @@ use Rattle.probe_access.specs.CommandRuns.{clearing, command_acts, error_shown, 
 use Rattle.probe_access.specs.ElementRuns.{HandFailed, Handed, LoadRuns, LoadRunsFailed, LoadsFailed, LoadsInside, LoadsOn}
 use Rattle.probe_access.specs.MemoryRuns.{PutBack, Recovers, SavedFailed}
 use Rattle.probe_access.specs.RegisterAccess.{joined, element_load_word, next_word, transfer_word, x8_number, x9_number}
-use Rattle.probe_access.specs.ReadRuns.{AskLoadsFailed, AskedLoads, RanLoads, RunLoadsFailed, is_wide, run_reads}
+use Rattle.probe_access.specs.ReadRuns.{AskLoadsFailed, AskedLoads, AwaitingFailed, RanLoads, RunLoadsFailed, is_wide, run_reads}
 use Rattle.probe_access.specs.RegisterRuns.{DoubleRead, ReadApart, RegisterWritten, double_written}
-use Rattle.probe_access.proofs.AroundUntold.{PlainMemory, apart_plain, behind_plain, command_plain, put_back_plain, read_plain, save_plain}
+use Rattle.probe_access.proofs.AroundUntold.{PlainMemory, apart_plain, behind_plain, command_plain, put_back_plain, save_plain}
+use Rattle.probe_access.proofs.AwaitedCalls.{asked_of}
 use Rattle.probe_access.proofs.BlockCauses.{
   Calls,
   InsideCauses,
@@ -44,9 +45,7 @@ use Rattle.probe_access.proofs.BlockCauses.{
   ran_fetched,
   ran_oddly,
   ran_reported,
-  read_calls,
-  read_causes,
-  register_fetched,
+  apart_fetched,
   saved_calls,
   written_calls,
 }
@@ -141,10 +140,33 @@ eight_list cleared front polls last second =
     ∙ ap (λ xs. (cleared ++ front) ++ Put command_address (transfer_word false x8_number) ∷ xs)
     (append_assoc polls (poll_act last ∷ clearing (error_shown last)) second)
 
+awaiting_causes : (wide : Bool) (most count new_count : ℕ) (a b : Tells) (e : AccessFault) → LinkLater count new_count e
+    → AwaitingFailed wide most count new_count a b e → Causes count new_count a b e
+awaiting_causes wide most count new_count a b e later (AwaitingFailed.asking looks more few f) =
+    asking_loads_causes wide looks more count new_count a b e later f
+awaiting_causes wide most count new_count a b e later (AwaitingFailed.reading read last mid below r fine f) =
+    causes_same a mid b (calls _ a mid r.ran.did) count new_count e later (behind_causes _ _ _ count new_count mid b e f)
+
 run_loads_causes : (size : Size) (address block handed : ℕ) (values : List ℕ) (count new_count : ℕ) (a b : Tells) (e : AccessFault)
     → LinkLater count new_count e → RunLoadsFailed size address block handed values count new_count a b e → Causes count new_count a b e
 run_loads_causes size address block handed values count new_count a b _ later (RunLoadsFailed.asking e looks more none within f) =
     asking_loads_causes (is_wide size) looks more count new_count a b e later f
+run_loads_causes size address block handed values count new_count a b _ later (RunLoadsFailed.awaiting e most none within f) =
+    awaiting_causes (is_wide size) most count new_count a b e later f
+run_loads_causes size address block handed values count new_count a b _ later
+    (RunLoadsFailed.awaited_oddly shown read last is none within w fine fault) =
+    let r : AskedLoads (is_wide size) read last a b = asked_of (is_wide size) read last a b w in
+    let s : RunShown last (clearing (error_shown last) ++ (Put abstractauto_address 0 ∷ [])) a b = run_shown (is_wide size) read last a b b [] r nothing in
+    record {
+      word = last;
+      is = is;
+      front = s.front;
+      rest = clearing (error_shown last) ++ (Put abstractauto_address 0 ∷ []);
+      idle = r.ran.idle;
+      some = fine;
+      other = inl fault;
+      did = s.did;
+    }
 run_loads_causes size address block handed values count new_count a b _ later (RunLoadsFailed.in_words why read last mid none within r f) =
     causes_same a mid b (asked_loads_calls (is_wide size) read last a mid r) count new_count (access_fault.Dmi why) later (f.acts, f.failed, f.broke)
 run_loads_causes size address block handed values count new_count a b _ later (RunLoadsFailed.finding e read value last mid then none within r words f) =
@@ -214,12 +236,12 @@ loads_causes size address block count new_count values a b _ later (LoadsFailed.
     causes_same a mid b (loads_calls size address block a front mid on) count new_count (access_fault.Memory at) later
     (reported_more at count new_count mid r.mid b (ran_reported [] next_word 3 mid r.mid r.ran) (calls _ r.mid b r.words.did))
 loads_causes size address block count new_count values a b _ later (LoadsFailed.in_last e mid all on f) =
-    causes_same a mid b (loads_calls size address block a values mid on) count new_count e later (read_causes x9_number count new_count mid b e later f)
+    causes_same a mid b (loads_calls size address block a values mid on) count new_count e later (apart_causes x9_number count new_count mid b e later f)
 
 pub loads_inside_causes : (size : Size) (address block : ℕ) (values : List ℕ)
     → InsideCauses (LoadsInside size address block values) (LoadsFailed size address block values)
 loads_inside_causes size address block values = record {
-  went = λ a b r. calls_then a r.mid b (loads_calls size address block a r.front r.mid r.on) (read_calls x9_number r.last r.mid b r.read);
+  went = λ a b r. calls_then a r.mid b (loads_calls size address block a r.front r.mid r.on) (apart_calls x9_number r.last r.mid b r.read);
   failed = λ count new_count a b e later f. loads_causes size address block count new_count values a b e later f;
 }
 
@@ -326,7 +348,7 @@ load_fetched size address count values old new r =
     (saved_calls r.x8 r.x9 old r.first r.saved) in
     let g : Fetched (is_wide size) r.inside.front old r.inside.mid = loads_fetched size address count old r.first r.inside.front r.inside.mid f r.inside.on in
     let k : Fetched (is_wide size) (r.inside.front ++ r.inside.last ∷ []) old r.last =
-    register_fetched (is_wide size) x9_number r.inside.last r.inside.front old r.inside.mid r.last g r.inside.read in
+    apart_fetched (is_wide size) x9_number r.inside.last r.inside.front old r.inside.mid r.last g r.inside.read in
     subst (λ xs. Fetched (is_wide size) xs old new) (sym r.inside.are)
     (fetched_calls (is_wide size) (r.inside.front ++ r.inside.last ∷ []) old r.last new k (back_calls r.x8 r.x9 r.last new r.put_back))
 
@@ -383,6 +405,12 @@ asking_memory : (wide : Bool) (looks more old_count new_count : ℕ) (old new : 
 asking_memory wide looks more old_count new_count old new e (AskLoadsFailed.in_run f) = behind_plain _ _ _ 0 ⊥ old_count new_count old new e f
 asking_memory wide looks more old_count new_count old new e (AskLoadsFailed.in_switch front last mid begins r why is b) = subst (PlainMemory 0 ⊥) (sym is) tt
 
+awaiting_memory : (wide : Bool) (most old_count new_count : ℕ) (old new : Tells) (e : AccessFault) → AwaitingFailed wide most old_count new_count old new e
+    → PlainMemory 0 ⊥ e
+awaiting_memory wide most old_count new_count old new e (AwaitingFailed.asking looks more few f) = asking_memory wide looks more old_count new_count old new e f
+awaiting_memory wide most old_count new_count old new e (AwaitingFailed.reading read last mid below r fine f) =
+    behind_plain _ _ _ 0 ⊥ old_count new_count mid new e f
+
 hand_memory : (old_count new_count : ℕ) (old new : Tells) (e : AccessFault) → HandFailed old_count new_count old new e → PlainMemory 0 ⊥ e
 hand_memory old_count new_count old new _ (HandFailed.in_run e f) = command_plain [] next_word 0 ⊥ old_count new_count old new e f
 hand_memory old_count new_count old new _ (HandFailed.in_words mid r why f) = tt
@@ -394,6 +422,10 @@ run_memory : (size : Size) (address count handed x8 x9 old_count new_count : ℕ
     → IfMemory (Fetched (is_wide size) (values ++ more) old new) e
 run_memory size address count handed x8 x9 old_count new_count values more old mid last new _ f (RunLoadsFailed.asking e looks n none within g) p =
     no_memory (Fetched (is_wide size) (values ++ more) old new) e (asking_memory (is_wide size) looks n old_count new_count mid last e g)
+run_memory size address count handed x8 x9 old_count new_count values more old mid last new _ f (RunLoadsFailed.awaiting e most none within g) p =
+    no_memory (Fetched (is_wide size) (values ++ more) old new) e (awaiting_memory (is_wide size) most old_count new_count mid last e g)
+run_memory size address count handed x8 x9 old_count new_count values more old mid last new _ f
+    (RunLoadsFailed.awaited_oddly shown read end is none within a fine fault) p = tt
 run_memory size address count handed x8 x9 old_count new_count values more old mid last new _ f (RunLoadsFailed.in_words why read end m none within a g) p = tt
 run_memory size address count handed x8 x9 old_count new_count values more old mid last new _ f
     (RunLoadsFailed.finding e read value end m then none within a words g) p =
@@ -432,7 +464,7 @@ behind_fetched size address count x8 x9 old_count new_count values old first las
     (refused_fetched (is_wide size) v x8 front old mid last p.mid (loads_fetched size address count old first front mid f on) r p.first)
     (written_calls x9_number x9 p.mid new p.second))
 behind_fetched size address count x8 x9 old_count new_count values old first last new _ recovers f (LoadsFailed.in_last e mid all on g) p =
-    no_memory (Fetched (is_wide size) values old new) e (read_plain x9_number 0 ⊥ old_count new_count mid last e g)
+    no_memory (Fetched (is_wide size) values old new) e (apart_plain x9_number 0 ⊥ old_count new_count mid last e g)
 
 saved_fetched : (size : Size) (address count x8 x9 old_count new_count : ℕ) (values : List ℕ) (old first new : Tells) (e : AccessFault)
     → Fetched (is_wide size) [] old first

@@ -18,20 +18,20 @@ use Rattle.probe_access.specs.Accesses.{IfMemory}
 use Rattle.probe_access.specs.Blocks.{BlockLoadLeft, BlockLoadedAt, element_at}
 use Rattle.probe_access.specs.ElementRuns.{HandFailed, Handed, LoadRuns, LoadRunsFailed, LoadsFailed, LoadsInside, LoadsOn, StartFailed, block_program}
 use Rattle.probe_access.specs.MemoryRuns.{AroundFailed, PutBack}
-use Rattle.probe_access.specs.ReadRuns.{is_wide, AskLoadsFailed, AskedLoads, RanLoads, RunLoadsFailed}
+use Rattle.probe_access.specs.ReadRuns.{is_wide, AskLoadsFailed, AskedLoads, AwaitingFailed, RanLoads, RunLoadsFailed}
 use Rattle.probe_access.specs.RegisterRuns.{ReadApart}
 use Rattle.probe_access.specs.RegisterAccess.{element_load_word, next_word, x8_number, x9_number}
 use Rattle.probe_access.proofs.AccessEnd.{back_untold, saved_untold, written_untold}
 use Rattle.probe_access.proofs.Along.{did_untold}
 use Rattle.probe_access.proofs.AroundLemmas.{around_saved}
-use Rattle.probe_access.proofs.AroundUntold.{apart_plain, behind_plain, command_plain, read_plain, write_plain}
+use Rattle.probe_access.proofs.AroundUntold.{apart_plain, behind_plain, command_plain, write_plain}
 use Rattle.probe_access.proofs.BlockAround.{BackWith, BlockInside, OnlyAt, PlainAt, around_at, around_ok, around_untold, plain_at, plain_at_map}
 use Rattle.probe_access.proofs.ElementSites.{loaded_more, not_loaded_more, stood_turns}
 use Rattle.probe_access.proofs.ElementWords.{element_first}
 use Rattle.probe_access.proofs.LoadClauses.{fits_of}
 use Rattle.probe_access.proofs.LoadEnds.{loads_done, loads_only, run_below}
 use Rattle.probe_access.proofs.LoadPlaces.{LoadFault, LoadsDone}
-use Rattle.probe_access.proofs.RegAnswers.{read_untold}
+use Rattle.probe_access.proofs.RegAnswers.{apart_untold}
 use Rattle.probe_access.proofs.RegClauses.{first_told, untold_serving}
 use Rattle.probe_access.proofs.StoreBlockClauses.{back_serving, block_at, run_plain, started_untold}
 use Rattle.probe_access.proofs.StorePlaces.{BlockAt}
@@ -81,7 +81,7 @@ pub load_block_ok : (size : Size) (address count h : ℕ) (values : List ℕ) (f
 load_block_ok size address count h values None coming new ends some ready selects halted r =
     let a : r.first.far ≡ None = saved_untold r.x8 r.x9 (tells None coming) r.first r.saved refl in
     let b : r.inside.mid.far ≡ None = loads_untold size address count r.first r.inside.front r.inside.mid r.inside.on a in
-    let c : r.last.far ≡ None = read_untold x9_number r.inside.last r.inside.mid r.last r.inside.read b in
+    let c : r.last.far ≡ None = apart_untold x9_number r.inside.last r.inside.mid r.last r.inside.read b in
     let d : new.far ≡ None = back_untold r.x8 r.x9 r.last new r.put_back c in
     record { loaded = d; serving = untold_serving h new.far d }
 load_block_ok size address count h values (Some f) coming new ends some ready selects halted r =
@@ -140,11 +140,22 @@ asking_plain G wide looks more old_count new_count old new e (AskLoadsFailed.in_
 taken_long : (read : List ℕ) (made value : ℕ) → made ≤ length read → length (take made read ++ value ∷ []) ≡ made + 1
 taken_long read made value few = length-append (take made read) (value ∷ []) ∙ ap (λ n. n + 1) (length-take-le made read few)
 
+awaiting_plain : (G : ℕ → Type 0) (wide : Bool) (most old_count new_count : ℕ) (old new : Tells) (e : AccessFault)
+    → AwaitingFailed wide most old_count new_count old new e → PlainAt G e
+awaiting_plain G wide most old_count new_count old new e (AwaitingFailed.asking looks more few f) =
+    asking_plain G wide looks more old_count new_count old new e f
+awaiting_plain G wide most old_count new_count old new e (AwaitingFailed.reading read last mid below r fine f) =
+    plain_at G e (behind_plain _ _ _ 0 ⊥ old_count new_count mid new e f)
+
 run_loads_plain : (size : Size) (address count old_count new_count : ℕ) (values more : List ℕ) (old new : Tells) (e : AccessFault) → old.far ≡ None
     → RunLoadsFailed size address count (length values) more old_count new_count old new e
     → PlainAt (λ a. UntoldLoad size address count (values ++ more) a new) e
 run_loads_plain size address count old_count new_count values more old new _ none (RunLoadsFailed.asking e looks n nothing within f) =
     asking_plain (λ a. UntoldLoad size address count (values ++ more) a new) (is_wide size) looks n old_count new_count old new e f
+run_loads_plain size address count old_count new_count values more old new _ none (RunLoadsFailed.awaiting e most nothing within f) =
+    awaiting_plain (λ a. UntoldLoad size address count (values ++ more) a new) (is_wide size) most old_count new_count old new e f
+run_loads_plain size address count old_count new_count values more old new _ none
+    (RunLoadsFailed.awaited_oddly shown read last is nothing within a fine fault) = tt
 run_loads_plain size address count old_count new_count values more old new _ none (RunLoadsFailed.in_words why read last mid nothing within a f) = tt
 run_loads_plain size address count old_count new_count values more old new _ none
     (RunLoadsFailed.finding e read value last mid then nothing within a words f) =
@@ -176,7 +187,7 @@ loads_plain size address count old_count new_count values old new _ some none (L
 loads_plain size address count old_count new_count values old new _ some none (LoadsFailed.refused front last mid are below on r) =
     record { below = below; at_is = refl; untold = handed_untold 3 last mid new r (loads_untold size address count old front mid on none) }
 loads_plain size address count old_count new_count values old new _ some none (LoadsFailed.in_last e mid all on f) =
-    plain_at (λ a. UntoldLoad size address count values a new) e (read_plain x9_number 0 ⊥ old_count new_count mid new e f)
+    plain_at (λ a. UntoldLoad size address count values a new) e (apart_plain x9_number 0 ⊥ old_count new_count mid new e f)
 
 load_back : (size : Size) (address count : ℕ) (values : List ℕ) (at x8 x9 : ℕ) (last back : Tells) → PutBack x8 x9 last back
     → UntoldLoad size address count values at last → UntoldLoad size address count values at back

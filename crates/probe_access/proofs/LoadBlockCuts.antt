@@ -25,7 +25,7 @@ use Rattle.probe_access.proofs.AccessTold.{SavedTold, saved_told}
 use Rattle.probe_access.proofs.BlockAround.{saved_cut}
 use Rattle.probe_access.proofs.CutAccess.{AnyScratch, HungInside, InsideAt, any_same, itself}
 use Rattle.probe_access.proofs.CutAccess.InsideAt.{made, not_yet}
-use Rattle.probe_access.proofs.CutHarts.{PutBack as PutBackHart, Written, read_hung, save_hung, words_hung, write_hung}
+use Rattle.probe_access.proofs.CutHarts.{PutBack as PutBackHart, Written, apart_hung, save_hung, words_hung, write_hung}
 use Rattle.probe_access.proofs.CutHung.{Hung, HungAt, hung_map}
 use Rattle.probe_access.proofs.CutSites.{cut_always, if_cut}
 use Rattle.probe_access.proofs.ElementWords.{LoadsElement, scratched_advanced, x9_again}
@@ -33,7 +33,7 @@ use Rattle.probe_access.proofs.LoadBlockClauses.{loads_inside}
 use Rattle.probe_access.proofs.LoadEnds.{loads_place, run_below}
 use Rattle.probe_access.proofs.LoadHangs.{LoadHung, LoadHungAt, any_scratched, hung_before, hung_behind, hung_within, load_fits}
 use Rattle.probe_access.proofs.LoadHangs.LoadHungAt.{within, behind}
-use Rattle.probe_access.proofs.ReadCuts.{run_loads_hung}
+use Rattle.probe_access.proofs.ReadHangs.{run_loads_hung}
 use Rattle.probe_access.proofs.LoadPlaces.{
   LoadFault,
   LoadPlace,
@@ -178,7 +178,7 @@ loads_hung size address count h values bus x s old_count new_count old new _ env
     (λ p. hung_behind size address count h values (pl.last ∷ []) bus x s pl.base new.far (all_but_last values pl.last ∙ all) pl.each
     pl.set.then.stood.held.here pl.bus_is
     (hung_map (λ z. z ≡ y) (AnyScratch x) h bus pl.base new.far (λ z is. any_scratched x z pl.p pl.last is) p))
-    (read_hung x9_number h bus y pl.base x old_count new_count mid new e (record { small = omega arith; other = refl }) pl.set.then f)
+    (apart_hung x9_number h bus y pl.base x old_count new_count mid new e (record { small = omega arith; other = refl }) pl.set.then f)
 
 -- ---- while x8 and x9 were put back, and saved
 

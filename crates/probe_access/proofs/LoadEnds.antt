@@ -11,7 +11,7 @@ use Rattle.probe_access.specs.Blocks.{element_at}
 use Rattle.probe_access.specs.ElementRuns.{LoadsFailed, LoadsInside, LoadsOn}
 use Rattle.probe_access.specs.ReadRuns.{RanLoads, RunLoadsFailed}
 use Rattle.probe_access.specs.RegisterAccess.{x9_number}
-use Rattle.probe_access.proofs.AroundTold.{read_clean, reads_x9}
+use Rattle.probe_access.proofs.AroundTold.{apart_clean, reads_x9}
 use Rattle.probe_access.proofs.BlockAround.{LeftWith, OnlyAt, clean_at}
 use Rattle.probe_access.proofs.LoadPlaces.{
   LoadFault,
@@ -64,6 +64,9 @@ loads_done size address count h bus x s values old new env bus_is st r =
 pub run_below : (size : Size) (address count handed : ℕ) (more : List ℕ) (old_count new_count : ℕ) (old new : Tells) (e : AccessFault)
     → RunLoadsFailed size address count handed more old_count new_count old new e → handed < count
 run_below size address count handed more old_count new_count old new _ (RunLoadsFailed.asking e looks n none within f) = omega (arith, within)
+run_below size address count handed more old_count new_count old new _ (RunLoadsFailed.awaiting e most none within f) = omega (arith, within)
+run_below size address count handed more old_count new_count old new _ (RunLoadsFailed.awaited_oddly shown read last is none within a zero three) =
+    omega (arith, within)
 run_below size address count handed more old_count new_count old new _ (RunLoadsFailed.in_words why read last mid none within a f) = omega (arith, within)
 run_below size address count handed more old_count new_count old new _ (RunLoadsFailed.finding e read value last mid then none within a words f) =
     omega (arith, within)
@@ -96,7 +99,7 @@ loads_only size address count h values bus x s old_count new_count old new _ env
     let pl : LoadPlace size address count values h bus x s mid.far =
     loads_place size address count h bus x s old values mid env bus_is (omega (arith, all)) st on in
     clean_at (λ at. LeftWith (LoadFault size address count values at h bus x s) h bus x new.far) e
-    (read_clean x9_number h bus (scratched pl.p pl.last x) pl.base x old_count new_count mid new e (record { small = omega arith; other = refl }) (reads_x9 (scratched pl.p pl.last x))
+    (apart_clean x9_number h bus (scratched pl.p pl.last x) pl.base x old_count new_count mid new e (record { small = omega arith; other = refl }) (reads_x9 (scratched pl.p pl.last x))
     pl.set.then f)
 loads_only size address count h values bus x s old_count new_count old new _ env bus_is st (LoadsFailed.in_run e front more mid are on f) =
     subst (λ xs. OnlyAt (λ at. LeftWith (LoadFault size address count xs at h bus x s) h bus x new.far) e) (sym are)

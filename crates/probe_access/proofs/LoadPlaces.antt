@@ -21,11 +21,11 @@ use Rattle.probe_access.specs.CommandRuns.{RanCommand}
 use Rattle.probe_access.specs.ElementRuns.{HandFailed, Handed, LoadsFailed, LoadsInside, LoadsOn, StartFailed, Started, block_program}
 use Rattle.probe_access.specs.ReadRuns.{is_wide}
 use Rattle.probe_access.specs.RegisterAccess.{element_load_word, next_word, x8_number, x9_number}
-use Rattle.probe_access.specs.RegisterRuns.{DoubleRead, RegisterRead, RegisterWritten}
+use Rattle.probe_access.specs.RegisterRuns.{DoubleRead, ReadApart, RegisterWritten}
 use Rattle.probe_access.proofs.AccessSteps.{WordDid}
 use Rattle.probe_access.proofs.AccessTold.{held_as}
 use Rattle.probe_access.proofs.Along.{AtSites, did_sites}
-use Rattle.probe_access.proofs.AroundTold.{Clean, command_clean, read_clean, reads_x9, write_clean, writes_x8}
+use Rattle.probe_access.proofs.AroundTold.{Clean, command_clean, apart_clean, reads_x9, write_clean, writes_x8}
 use Rattle.probe_access.proofs.Aside.{Frozen, HartAt, accessed, passed}
 use Rattle.probe_access.proofs.BlockAround.{LeftWith, OnlyAt, clean_at, only_at_map}
 use Rattle.probe_access.proofs.ElementSites.{access_on, access_ready, passed_ready}
@@ -45,7 +45,7 @@ use Rattle.probe_access.proofs.NextSteps.{advanced}
 use Rattle.probe_access.proofs.NextTold.{Handing, IsProgram, NextFaulted, NextWent, RanNext, next_faulted, next_neither, next_went, ran_next}
 use Rattle.probe_access.proofs.ReadyTurns.{BoardReady, Passed, passed_turns}
 use Rattle.probe_access.proofs.ReadyUnit.{Kept}
-use Rattle.probe_access.proofs.RegAnswers.{ReadTold, StoodTold, WrittenTold, read_told, words_joined, written_told}
+use Rattle.probe_access.proofs.RegAnswers.{ReadTold, StoodTold, WrittenTold, apart_told, words_joined, written_told}
 use Rattle.probe_access.proofs.RegisterTold.{WordPuts, WordsGot, words_got}
 use Rattle.probe_access.proofs.RegisterTold.WordPuts.{no_more}
 use Rattle.probe_access.proofs.ScratchLemmas.{after_fault_scratched, scratched, x9_value}
@@ -282,11 +282,11 @@ pub record LoadsDone (size : Size) (address count : ℕ) (values : List ℕ) (h 
 
 pub last_load : (size : Size) (address count : ℕ) (front : List ℕ) (last h : ℕ) (bus : BusUnit) (x : Hart) (s : Site) (mid new : Tells)
     → length x.core.x ≡ 32 → length (front ++ last ∷ []) ≡ count → LoadPlace size address count front h bus x s mid.far
-    → RegisterRead x9_number last mid new
+    → ReadApart x9_number last mid new
     → LeftWith (LoadsDone size address count (front ++ last ∷ []) h bus x s) h bus x new.far
 last_load size address count front last h bus x s mid new all count_is pl r =
     let y : Hart = scratched pl.p pl.last x in
-    let a : ReadTold x9_number last h bus y pl.base x new.far = read_told x9_number last h bus y pl.base x mid new (record { small = omega arith; other = refl }) pl.set.then r in
+    let a : ReadTold x9_number last h bus y pl.base x new.far = apart_told x9_number last h bus y pl.base x mid new (record { small = omega arith; other = refl }) pl.set.then r in
     let same : last ≡ pl.last =
     held_as y x9_number a.held last pl.last (x9_value y ∙ ap Some (scratched_x9 pl.p pl.last x all)) a.held_is a.value_is pl.small in
     let n : length (front ++ last ∷ []) ≡ length front + 1 = all_but_last front last in

@@ -166,7 +166,7 @@ values_taken wide looks (suc taken) (suc n) words few =
 abbrev pub all_ops : Bool → ℕ → ℕ → List DmiOp
 all_ops wide looks more = Write abstractauto_address 1 ∷ load_ops wide looks more
 
-one_small : (wide : Bool) (ops : List DmiOp) → All IsOperation ops → All IsOperation (element_ops wide ++ ops)
+pub one_small : (wide : Bool) (ops : List DmiOp) → All IsOperation ops → All IsOperation (element_ops wide ++ ops)
 one_small true ops small =
     All-cons IsOperation (Read data1_address) (Read data0_address ∷ ops) (omega arith)
     (All-cons IsOperation (Read data0_address) ops (omega arith) small)

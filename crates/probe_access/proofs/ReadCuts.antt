@@ -93,10 +93,10 @@ use Rattle.probe_access.proofs.TransferLemmas.{RanAlone, polls_ran}
 
 -- ---- a site
 
-abbrev HungHere : LoadRun → Site → Type 0
+abbrev pub HungHere : LoadRun → Site → Type 0
 HungHere e t = LoadHungAt e.size e.address e.count e.front e.h e.bus e.x e.s t
 
-scratch_of : (e : LoadRun) (given : List ℕ) (v : ℕ) (y : Hart) (base : Site) → LoadDone e given v y base → AnyScratch e.x y
+pub scratch_of : (e : LoadRun) (given : List ℕ) (v : ℕ) (y : Hart) (base : Site) → LoadDone e given v y base → AnyScratch e.x y
 scratch_of e given v y base d = any_scratched e.x y d.p v d.hart_is
 
 done_fits : (e : LoadRun) (given : List ℕ) (v : ℕ) (y : Hart) (base : Site) → RunFits e → LoadDone e given v y base → length given + 1 < e.count
@@ -107,7 +107,7 @@ done_fits e given v y base f d below =
     (load_fits e.size e.address (length given + 1) v e.x f.block.all)
 
 -- these were loaded, and this is left of it
-hung_here : (e : LoadRun) (given : List ℕ) (v : ℕ) (y : Hart) (base t : Site) → LoadDone e given v y base → length given + 1 < e.count
+pub hung_here : (e : LoadRun) (given : List ℕ) (v : ℕ) (y : Hart) (base t : Site) → LoadDone e given v y base → length given + 1 < e.count
     → InsideAt (AnyScratch e.x) LoadLeaves e.h e.bus base t → HungHere e t
 hung_here e given v y base t d below i =
     let are : given ++ v ∷ [] ≡ e.front ++ (d.more ++ v ∷ []) = ap (λ xs. xs ++ v ∷ []) d.given_is ∙ append_assoc e.front d.more (v ∷ []) in
@@ -130,7 +130,7 @@ lost_left e good t f below (refused v y base k before d p holds q at) =
     (made before m refl
     (hung_done (AnyScratch e.x) (automatic Exception k e.h e.bus) e.h e.bus y (accessed m (passed before base)) t refl (scratch_of e good v y base d) at))
 
-reads_cut : (e : LoadRun) (given : List ℕ) (t : Site) → RunFits e → length given + 1 < e.count → ReadsAt e given t → HungHere e t
+pub reads_cut : (e : LoadRun) (given : List ℕ) (t : Site) → RunFits e → length given + 1 < e.count → ReadsAt e given t → HungHere e t
 reads_cut e given t f below (on v y base k d p st) = stage_left Fine e given v y base k t f d below st
 reads_cut e given t f below (lost good behind cut more l) = lost_left e good t f (within_all given good behind e.count cut below) l
 
@@ -145,7 +145,7 @@ half_cut e given high t f below (half_lost good behind cut l) =
 -- ---- among the operations of the one call
 
 -- so many elements are to be read, with looks in front of some, and the first poll
-data ReadOps (wide : Bool) : ℕ → List DmiOp → Type 0 where
+pub data ReadOps (wide : Bool) : ℕ → List DmiOp → Type 0 where
   at_last : ReadOps wide 0 (Read abstractcs_address ∷ [])
   a_look : (n : ℕ) (ops : List DmiOp) → ReadOps wide n ops → ReadOps wide n (Read abstractcs_address ∷ ops)
   an_element : (n : ℕ) (ops : List DmiOp) → ReadOps wide n ops → ReadOps wide (suc n) (Read data1_address ∷ Read data0_address ∷ ops)
@@ -167,7 +167,7 @@ reads_ops wide looks (suc n) =
     (one_more wide n (reads_of wide looks n ++ Read abstractcs_address ∷ []) (reads_ops wide looks n)))
 
 -- at a look
-look_cut : (e : LoadRun) (given : List ℕ) (mid t : Site) → RunFits e → length given + 1 < e.count → SiteCut (Read abstractcs_address) mid t
+pub look_cut : (e : LoadRun) (given : List ℕ) (mid t : Site) → RunFits e → length given + 1 < e.count → SiteCut (Read abstractcs_address) mid t
     → ReadsAt e given mid → HungHere e t
 look_cut e given mid t f below cut at =
     let polled : RanAlone mid t = status_cut mid t cut in
@@ -202,7 +202,7 @@ only_cut e given mid t f below thin (was_performed result one) at =
     reads_cut e (given ++ value_of result ∷ []) t f (omega (arith, n, below))
     (only_read e given (value_of result) mid t f (omega (arith, n, below)) thin (record { result = result; one = one; value_is = refl }) at)
 
-ops_cut : (e : LoadRun) (given : List ℕ) (n : ℕ) (ops : List DmiOp) (done : List Done) (op : DmiOp) (left : List DmiOp) (s mid t : Site) → RunFits e
+pub ops_cut : (e : LoadRun) (given : List ℕ) (n : ℕ) (ops : List DmiOp) (done : List Done) (op : DmiOp) (left : List DmiOp) (s mid t : Site) → RunFits e
     → length given + 1 + n < e.count → ReadOps (is_wide e.size) n ops → map op_of done ++ op ∷ left ≡ ops → ReadsAt e given s → OperationsAt done s mid
     → SiteCut op mid t
     → HungHere e t
@@ -254,7 +254,7 @@ ops_cut e given _ _ (o ∷ done) op left s mid t f below (a_narrow n ops thin mo
     (only_read e given v s at.0 f (omega (arith, m, below)) thin (record { result = o.result; one = one; value_is = refl }) r) at.2 cut
 
 -- none was begun
-unbegun : (e : LoadRun) (given : List ℕ) (v : ℕ) (y : Hart) (base t : Site) → LoadDone e given v y base → length given + 1 < e.count
+pub unbegun : (e : LoadRun) (given : List ℕ) (v : ℕ) (y : Hart) (base t : Site) → LoadDone e given v y base → length given + 1 < e.count
     → HungAt (AnyScratch e.x) e.h e.bus base t → HungHere e t
 unbegun e given v y base t d below p = hung_here e given v y base t d below (not_yet p)
 
@@ -316,7 +316,7 @@ together_cut looks n e given v y base k (o ∷ done) op left s mid t f below d p
 -- ---- behind it
 
 -- the clearing of an error
-clears_cut : (e : LoadRun) (last : ℕ) (given : List ℕ) (s t : Site) → RunFits e → length given + 1 < e.count → (error_shown last ≡ 0 → ⊥)
+pub clears_cut : (e : LoadRun) (last : ℕ) (given : List ℕ) (s t : Site) → RunFits e → length given + 1 < e.count → (error_shown last ≡ 0 → ⊥)
     → ReadsEnd e last given s → SiteCut (Write abstractcs_address clears_cmderr) s t → HungHere e t
 clears_cut e last given s t f below error (all_end u v y base k shown d p holds at) cut = absurd (error shown)
 clears_cut e last given s t f below error (short_end good behind u v y base k shown are more least d p holds at) cut =
@@ -353,7 +353,7 @@ switch_cut e last given s t f below (fault_gone good behind v y base k before sh
 
 -- ---- by the fault
 
-abbrev HungTold : LoadRun → Option Far → Type 0
+abbrev pub HungTold : LoadRun → Option Far → Type 0
 HungTold e told = LoadHung e.size e.address e.count e.front e.h e.bus e.x e.s told
 
 several_cut : (looks n : ℕ) (e : LoadRun) (given : List ℕ) (v : ℕ) (y : Hart) (base : Site) (old_count new_count : ℕ) (old : Tells) (told : Option Far)
@@ -374,7 +374,7 @@ several_cut looks n e given v y base old_count new_count old told why f below d 
           (subst (Stood e.h e.bus y base e.x st.kept) (sym at.acts_are) st.stood) s.before s.cut;
     }
 
-read_long : (values read : List ℕ) (n count : ℕ) → length read ≡ n → length values + 2 + n < count → length (values ++ read) + 2 < count
+pub read_long : (values read : List ℕ) (n count : ℕ) → length read ≡ n → length values + 2 + n < count → length (values ++ read) + 2 < count
 read_long values read n count long below =
     let l : length (values ++ read) ≡ length values + length read = length-append values read in omega (arith, l, long, below)
 
@@ -474,7 +474,7 @@ switching_cut n last e given v y base old_count new_count old mid told why _ _ _
           ends.cleared)) cut.cut;
     }
 
-asked_cut : (looks n : ℕ) (e : LoadRun) (given : List ℕ) (v : ℕ) (y : Hart) (base : Site) (old_count new_count : ℕ) (old new : Tells) (why : AccessFault)
+pub asked_cut : (looks n : ℕ) (e : LoadRun) (given : List ℕ) (v : ℕ) (y : Hart) (base : Site) (old_count new_count : ℕ) (old new : Tells) (why : AccessFault)
     → RunFits e → length given + 2 + n < e.count → LoadDone e given v y base → (st : StoodTold e.h e.bus y base e.x old.far) → IsLoad e st.kept
     → AskLoadsFailed (is_wide e.size) looks n old_count new_count old new why → IfCut (HungTold e new.far) why
 asked_cut looks n e given v y base old_count new_count old new why f below d st p (AskLoadsFailed.in_run g) =
@@ -482,100 +482,3 @@ asked_cut looks n e given v y base old_count new_count old new why f below d st 
 asked_cut looks n e given v y base old_count new_count old new why f below d st p (AskLoadsFailed.in_switch front last mid begins r fault is g) =
     subst (IfCut (HungTold e new.far)) (sym is)
     (switching_cut n last e given v y base old_count new_count old mid new.far fault front g.acts g.failed f below d st p begins r g.begun g.broke)
-
--- ---- the reading of the data words and of x8 behind it
-
--- the hart stands so, whatever came of the run
-record Standing (e : LoadRun) (told : Option Far) : Type 0 where
-  hart : Hart
-  other : Site
-  then : StoodTold e.h e.bus hart other e.x told
-  hung : (t : Site) → HungAt (λ z. z ≡ hart) e.h e.bus other t → HungHere e t
-
-same_scratch : (e : LoadRun) (y : Hart) (base t : Site) → AnyScratch e.x y → HungAt (λ z. z ≡ y) e.h e.bus base t → HungAt (AnyScratch e.x) e.h e.bus base t
-same_scratch e y base t one p = record {
-  unit = p.unit;
-  bus_is = p.bus_is;
-  hart = p.hart;
-  one = subst (AnyScratch e.x) (sym p.one) one;
-  harts = p.harts;
-  at = p.at;
-}
-
-standing : (e : LoadRun) (last : ℕ) (given : List ℕ) (told : Option Far) (far : Far) → told ≡ Some far → length given + 2 < e.count
-    → ReadsLeft e last given (site_of far) → Standing e told
-standing e last given told far is below (all_left u v y base k shown d p holds st) =
-    let n : length (given ++ u ∷ []) ≡ length given + 1 = all_but_last given u in
-    record {
-      hart = y;
-      other = base;
-      then = record { far = far; is = is; kept = k; stood = st };
-      hung = λ t g. unbegun e (given ++ u ∷ []) v y base t d (omega (arith, n, below))
-          (same_scratch e y base t (scratch_of e (given ++ u ∷ []) v y base d) g);
-    }
-standing e last given told far is below (short_left good behind u v y base k shown are more least d p holds st) =
-    let n : length (good ++ u ∷ []) ≡ length good + 1 = all_but_last good u in
-    let m : length given ≡ length good + length behind = ap length are ∙ length-append good behind in
-    record {
-      hart = y;
-      other = base;
-      then = record { far = far; is = is; kept = k; stood = st };
-      hung = λ t g. unbegun e (good ++ u ∷ []) v y base t d (omega (arith, n, m, more, below))
-          (same_scratch e y base t (scratch_of e (good ++ u ∷ []) v y base d) g);
-    }
-standing e last given told far is below (fault_left good behind v y base k before shown are d p holds q st) =
-    let m : Memory = (passed before base).board.memory in
-    let l : length given ≡ length good + length behind = ap length are ∙ length-append good behind in
-    record {
-      hart = y;
-      other = accessed m (passed before base);
-      then = record { far = far; is = is; kept = k; stood = st };
-      hung = λ t g. hung_here e good v y base t d (omega (arith, l, below))
-          (made before m refl (same_scratch e y (accessed m (passed before base)) t (scratch_of e good v y base d) g));
-    }
-
-hung_told : (e : LoadRun) (old told : Option Far) → (st : Standing e old) → Hung (λ z. z ≡ st.hart) e.h e.bus st.other told → HungTold e told
-hung_told e old told st p = record { far = p.far; is = p.is; hung = st.hung (site_of p.far) p.hung }
-
-words_then : (e : LoadRun) (value : ℕ) (mid then : Tells) → (st : Standing e mid.far) → DoubleRead value mid then
-    → StoodTold e.h e.bus st.hart st.other e.x then.far
-words_then e value mid then st r =
-    let at : AtSites _ st.then.far then.far = did_sites mid _ then st.then.far r.did st.then.is in
-    let got : WordsGot r.low r.high e.h e.bus st.hart st.other e.x st.then.kept (site_of at.far) =
-    words_got r.low r.high e.h e.bus st.hart st.other e.x st.then.kept (site_of st.then.far) (site_of at.far) st.then.stood at.acts_are in
-    record { far = at.far; is = at.is; kept = st.then.kept; stood = got.stood }
-
-pub run_loads_hung : (size : Size) (address count : ℕ) (values more : List ℕ) (old_count new_count h : ℕ) (bus : BusUnit) (x : Hart) (s : Site)
-    (old new : Tells) (why : AccessFault) → BlockAt size address count x s → LoadPlace size address count values h bus x s old.far
-    → RunLoadsFailed size address count (length values) more old_count new_count old new why
-    → IfCut (LoadHung size address count (values ++ more) h bus x s new.far) why
-run_loads_hung size address count values more old_count new_count h bus x s old new _ env pl (RunLoadsFailed.asking why looks n none below f) =
-    let e : LoadRun = run_of size address count h bus x s values in
-    subst (λ xs. IfCut (LoadHung size address count (values ++ xs) h bus x s new.far) why) (sym none)
-    (subst (λ xs. IfCut (LoadHung size address count xs h bus x s new.far) why) (sym (append-nil values))
-    (asked_cut looks n e values pl.last (scratched pl.p pl.last x) pl.base old_count new_count old new why
-    (place_fits size address count values h bus x s old.far env pl) below (place_done size address count values h bus x s old.far pl) pl.set.then
-    pl.set.program f))
-run_loads_hung size address count values more old_count new_count h bus x s old new _ env pl (RunLoadsFailed.in_words why read last mid none below a f) =
-    let e : LoadRun = run_of size address count h bus x s values in
-    let t : ReadsTold e last (values ++ read) mid.far = run_asked size address count values read last h bus x s old mid env below pl a in
-    let st : Standing e mid.far = standing e last (values ++ read) mid.far t.far t.is (read_long values read (length read) count refl below) t.left in
-    subst (λ xs. LoadHung size address count (values ++ xs) h bus x s new.far) (sym none)
-    (subst (λ xs. LoadHung size address count xs h bus x s new.far) (sym (append-nil values))
-    (hung_told e mid.far new.far st (words_hung h bus st.hart st.other x old_count new_count mid new.far why st.then f)))
-run_loads_hung size address count values more old_count new_count h bus x s old new _ env pl
-    (RunLoadsFailed.finding why read value last mid then none below a words f) =
-    let e : LoadRun = run_of size address count h bus x s values in
-    let t : ReadsTold e last (values ++ read) mid.far = run_asked size address count values read last h bus x s old mid env below pl a in
-    let st : Standing e mid.far = standing e last (values ++ read) mid.far t.far t.is (read_long values read (length read) count refl below) t.left in
-    subst (λ xs. IfCut (LoadHung size address count (values ++ xs) h bus x s new.far) why) (sym none)
-    (subst (λ xs. IfCut (LoadHung size address count xs h bus x s new.far) why) (sym (append-nil values))
-    (if_cut (Hung (λ z. z ≡ st.hart) h bus st.other new.far) (LoadHung size address count values h bus x s new.far) why
-    (λ p. hung_told e mid.far new.far st p)
-    (apart_hung x8_number h bus st.hart st.other x old_count new_count then new why (record { small = omega arith; other = refl }) (words_then e value mid then st words) f)))
-run_loads_hung size address count values more old_count new_count h bus x s old new _ env pl
-    (RunLoadsFailed.refused read number value last mid then below a error words few x8 is) = tt
-run_loads_hung size address count values more old_count new_count h bus x s old new _ env pl
-    (RunLoadsFailed.oddly shown read last is none below a fine early fault) = tt
-run_loads_hung size address count values more old_count new_count h bus x s old new _ env pl
-    (RunLoadsFailed.misplaced shown read value last x8 mid then is none below a which words found un) = tt

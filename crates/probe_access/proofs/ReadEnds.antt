@@ -59,7 +59,7 @@ use Rattle.probe_access.proofs.TransferLemmas.{Ended, RanAlone, ended_at, polls_
 
 -- ---- what is read
 
-front_within : (given more : List ℕ) (r count : ℕ) → length (given ++ r ∷ more) + 1 < count → length given + 1 < count
+pub front_within : (given more : List ℕ) (r count : ℕ) → length (given ++ r ∷ more) + 1 < count → length given + 1 < count
 front_within given more r count below = within_all (given ++ r ∷ more) given (r ∷ more) count refl below
 
 pub reads_done : (e : LoadRun) (given read : List ℕ) (acts : List Act) (s t : Site) → RunFits e → length (given ++ read) + 1 < e.count
@@ -107,12 +107,12 @@ pub data ReadsEnd (e : LoadRun) (last : ℕ) (given : List ℕ) (t : Site) : Typ
       → DoneAt (automatic Exception k e.h e.bus) e.h y (accessed (passed before base).board.memory (passed before base)) t → ReadsEnd e last given t
 
 -- the last poll
-record Shown (last : ℕ) (shown t : Site) : Type 0 where
-  behind : List Deed
-  active : shown.unit.active ≡ true
-  last_is : last ≡ value_of (result_of abstractcs_address shown)
-  moved : t ≡ ran behind shown
-  none : shown.unit.commands.steps ≡ []
+pub record Shown (last : ℕ) (shown t : Site) : Type 0 where
+  pub behind : List Deed
+  pub active : shown.unit.active ≡ true
+  pub last_is : last ≡ value_of (result_of abstractcs_address shown)
+  pub moved : t ≡ ran behind shown
+  pub none : shown.unit.commands.steps ≡ []
 
 shown_all : (e : LoadRun) (last : ℕ) (given : List ℕ) (u v : ℕ) (y : Hart) (base : Site) (k : Kept) (shown t : Site) → RunFits e → Shown last shown t
     → LoadDone e (given ++ u ∷ []) v y base → IsLoad e k → Holds u k → DoneAt (automatic Fine k e.h e.bus) e.h y base shown → ReadsEnd e last given t

@@ -21,7 +21,7 @@ use Rattle.probe_access.proofs.RegisterCalls.{broke_counted}
 
 -- ---- nothing was handed out
 
-none_handed : (size : Size) (address count : ℕ) (before : List ℕ) (old_count new_count : ℕ) (old new : Tells) (e : AccessFault)
+pub none_handed : (size : Size) (address count : ℕ) (before : List ℕ) (old_count new_count : ℕ) (old new : Tells) (e : AccessFault)
     → RunLoadsFailed size address count (length before) [] old_count new_count old new e
     → HandingFailed size address count before before old_count new_count old new e
 none_handed size address count before old_count new_count old new e f = record { values = []; are = sym (append-nil before); failed = f }
@@ -74,7 +74,7 @@ none_early : (size : Size) (address handed more error x8 : ℕ) → error ≡ 1 
     → (made : ℕ) → made ≤ more → (error ≡ 1 → 0 < made) → x8 ≡ element_at size address (handed + 1 + made) → ⊥
 none_early size address handed more error x8 is un made few some at = un made (let one : 0 < made = some is in omega (arith, one)) few at
 
-none_fault : (size : Size) (address handed more error x8 : ℕ) → NoneMade size address handed 0 more x8
+pub none_fault : (size : Size) (address handed more error x8 : ℕ) → NoneMade size address handed 0 more x8
     → (made : ℕ) → made ≤ more → (error ≡ 1 → 0 < made) → x8 ≡ element_at size address (handed + 1 + made) → ⊥
 none_fault size address handed more error x8 un made few some at = un made (omega arith) few at
 

@@ -17,7 +17,7 @@ use Rattle.probe_run.specs.Acts.{Act, Tells}
 use Rattle.probe_run.specs.Acts.Act.{Put}
 use Rattle.probe_access.specs.Blocks.{element_at}
 use Rattle.probe_access.specs.CommandRuns.{clearing, error_shown, poll_act}
-use Rattle.probe_access.specs.ReadRuns.{AskLoadsFailed, AskedLoads, Misplaced, RanLoads, RunLoadsFailed, is_wide, run_reads}
+use Rattle.probe_access.specs.ReadRuns.{AskLoadsFailed, AskedLoads, AwaitedLoads, AwaitingFailed, Misplaced, RanLoads, RunLoadsFailed, is_wide, run_reads}
 use Rattle.probe_access.specs.RegisterAccess.{element_load_word, transfer_word, x8_number}
 use Rattle.probe_access.specs.RegisterRuns.{DoubleRead, ReadApart}
 use Rattle.probe_access.specs.Accesses.{unchanged}
@@ -27,6 +27,8 @@ use Rattle.probe_access.proofs.AroundTold.{apart_clean, behind_clean, reads_x8}
 use Rattle.probe_access.proofs.Aside.{accessed, passed}
 use Rattle.probe_access.proofs.AtOnceTold.{EndSplit, end_split}
 use Rattle.probe_access.proofs.AutoReads.{Holds, IsLoad, LoadDone, LoadRun, NextRefuses, RunFits}
+use Rattle.probe_access.proofs.AwaitedCalls.{asked_of}
+use Rattle.probe_access.proofs.AwaitedOn.{awaited_in_time}
 use Rattle.probe_access.proofs.BlockAround.{LeftWith, OnlyAt, clean_at}
 use Rattle.probe_access.proofs.ElementSites.{access_on, access_ready}
 use Rattle.probe_access.proofs.ElementWords.{element_small, scratched_x8}
@@ -418,6 +420,26 @@ asking_only G wide looks more old_count new_count old new e (AskLoadsFailed.in_r
 asking_only G wide looks more old_count new_count old new e (AskLoadsFailed.in_switch front last mid made r why is b) =
     subst (λ f. OnlyAt G f) (sym is) tt
 
+awaiting_only : (G : ℕ → Type 0) (wide : Bool) (most old_count new_count : ℕ) (old new : Tells) (e : AccessFault)
+    → AwaitingFailed wide most old_count new_count old new e → OnlyAt G e
+awaiting_only G wide most old_count new_count old new e (AwaitingFailed.asking looks more few f) =
+    asking_only G wide looks more old_count new_count old new e f
+awaiting_only G wide most old_count new_count old new e (AwaitingFailed.reading read last mid below r fine f) =
+    clean_at G e (behind_clean _ _ _ old_count new_count mid new e f)
+
+-- an awaited run that ends with another error than memory's
+awaited_shown : (size : Size) (address count : ℕ) (values read : List ℕ) (last h : ℕ) (bus : BusUnit) (x : Hart) (s : Site) (old new : Tells)
+    → BlockAt size address count x s → length values + 2 + length read < count → LoadPlace size address count values h bus x s old.far
+    → AwaitedLoads (is_wide size) read last old new → error_shown last ≢ 0 → error_shown last ≢ 3 → ⊥
+awaited_shown size address count values read last h bus x s old new env within pl a zero three =
+    let e : LoadRun = run_of size address count h bus x s values in
+    let t : ReadsTold e last (values ++ read) new.far =
+    run_asked size address count values read last h bus x s old new env within pl (asked_of (is_wide size) read last old new a) in
+    known_shown e last (values ++ read) (site_of t.far) t.left zero
+    (awaited_in_time e values read last pl.last (scratched pl.p pl.last x) pl.base old a.mid (place_fits size address count values h bus x s old.far env pl)
+    (run_within values read count within) (place_done size address count values h bus x s old.far pl) pl.set.then pl.set.program a.ran)
+    three
+
 pub run_loads_only : (size : Size) (address count : ℕ) (values more : List ℕ) (old_count new_count h : ℕ) (bus : BusUnit) (x : Hart) (s : Site)
     (old new : Tells)
     (e : AccessFault) → BlockAt size address count x s → LoadPlace size address count values h bus x s old.far
@@ -426,6 +448,12 @@ pub run_loads_only : (size : Size) (address count : ℕ) (values more : List ℕ
 run_loads_only size address count values more old_count new_count h bus x s old new _ env pl (RunLoadsFailed.asking e looks n none within f) =
     asking_only (λ at. LeftWith (LoadFault size address count (values ++ more) at h bus x s) h bus x new.far)
     (is_wide size) looks n old_count new_count old new e f
+run_loads_only size address count values more old_count new_count h bus x s old new _ env pl (RunLoadsFailed.awaiting e most none within f) =
+    awaiting_only (λ at. LeftWith (LoadFault size address count (values ++ more) at h bus x s) h bus x new.far)
+    (is_wide size) most old_count new_count old new e f
+run_loads_only size address count values more old_count new_count h bus x s old new _ env pl
+    (RunLoadsFailed.awaited_oddly shown read last is none within a zero three) =
+    awaited_shown size address count values read last h bus x s old new env within pl a zero three
 run_loads_only size address count values more old_count new_count h bus x s old new _ env pl (RunLoadsFailed.in_words why read last mid none within a f) = tt
 run_loads_only size address count values more old_count new_count h bus x s old new _ env pl
     (RunLoadsFailed.finding e read value last mid then none within a words f) =

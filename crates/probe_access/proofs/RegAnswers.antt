@@ -11,7 +11,7 @@ use Rattle.probe_access.specs.declared.odd.OddStatus.{OddStatus}
 use Rattle.probe_run.specs.Acts.{Act, Tells}
 use Rattle.probe_run.specs.Sites.{put_hart}
 use Rattle.probe_access.specs.CommandRuns.{EndedBehind, RanCommand, command_acts, error_shown}
-use Rattle.probe_access.specs.RegisterRuns.{DoubleRead, RanOddly, RanTo, ReadApart, ReadTooEarly, RegisterRead, RegisterWritten, asked_acts, double_written}
+use Rattle.probe_access.specs.RegisterRuns.{DoubleRead, RanOddly, RanTo, ReadApart, ReadTooEarly, RegisterRead, RegisterSaved, RegisterWritten, asked_acts, double_written}
 use Rattle.probe_access.specs.Registers.{TurnsPassed, TurnsPassedBut, reaches}
 use Rattle.probe_access.specs.RegisterAccess.{joined, transfer_word}
 use Rattle.probe_access.proofs.Along.{AtSites, Split, did_sites, did_untold, site_acts-split}
@@ -212,6 +212,12 @@ read_told number value h bus y base w old new small st (RegisterRead.at_once r) 
 read_told number value h bus y base w old new small st (RegisterRead.late mid early r) =
     apart_told number value h bus y base w mid new small (too_early_told number h bus y base w old mid small st early) r
 
+-- one that is saved
+pub saving_told : (number value h : ℕ) (bus : BusUnit) (y : Hart) (base : Site) (w : Hart) (old new : Tells) → Plain number
+    → StoodTold h bus y base w old.far → RegisterSaved number value old new → ReadTold number value h bus y base w new.far
+saving_told number value h bus y base w old new small st (RegisterSaved.read r) = read_told number value h bus y base w old new small st r
+saving_told number value h bus y base w old new small st (RegisterSaved.apart r) = apart_told number value h bus y base w old new small st r
+
 -- one that is written
 pub record WrittenTold (number value h : ℕ) (bus : BusUnit) (y : Hart) (base : Site) (w : Hart) (k : Kept) (told : Option Far) : Type 0 where
   pub there : is_some (debug_value y number) ≡ true
@@ -299,7 +305,13 @@ write_not_odd number value shown h bus y base w old new small st r =
 
 -- ---- of an untold chip
 
+pub apart_untold : (number value : ℕ) (old new : Tells) → ReadApart number value old new → old.far ≡ None → new.far ≡ None
+apart_untold number value old new r is = did_untold r.mid _ new r.words.did (did_untold old _ r.mid r.ran.ran.did is)
+
 pub read_untold : (number value : ℕ) (old new : Tells) → RegisterRead number value old new → old.far ≡ None → new.far ≡ None
 read_untold number value old new (RegisterRead.at_once r) is = did_untold old _ new r.ended.did is
-read_untold number value old new (RegisterRead.late mid early r) is =
-    did_untold r.mid _ new r.words.did (did_untold mid _ r.mid r.ran.ran.did (did_untold old _ mid early.ended.did is))
+read_untold number value old new (RegisterRead.late mid early r) is = apart_untold number value mid new r (did_untold old _ mid early.ended.did is)
+
+pub saving_untold : (number value : ℕ) (old new : Tells) → RegisterSaved number value old new → old.far ≡ None → new.far ≡ None
+saving_untold number value old new (RegisterSaved.read r) is = read_untold number value old new r is
+saving_untold number value old new (RegisterSaved.apart r) is = apart_untold number value old new r is

@@ -14,8 +14,8 @@ use Rattle.probe_access.specs.Blocks.{element_at}
 use Rattle.probe_access.specs.BlockRuns.{Causes, EightRead, Reported, ReportedOddly}
 use Rattle.probe_access.specs.CommandRuns.{clearing, error_shown, poll_act, shows_busy}
 use Rattle.probe_access.specs.RegisterAccess.{transfer_word, x8_number}
-use Rattle.probe_access.specs.RegisterRuns.{RegisterRead}
-use Rattle.probe_access.proofs.BlockCauses.{Calls, LinkLater, behind_causes, calls, calls_then, apart_calls, causes_same, read_calls, read_causes}
+use Rattle.probe_access.specs.RegisterRuns.{ReadApart}
+use Rattle.probe_access.proofs.BlockCauses.{Calls, LinkLater, behind_causes, calls, calls_then, apart_calls, causes_same, apart_causes}
 use Rattle.probe_run.proofs.ActLemmas.{did_list, did_then}
 
 -- ---- calls that were Ok
@@ -25,7 +25,7 @@ asked_calls more last a b r = calls_then a r.mid b (calls _ a r.mid r.ran.did) (
 
 pub some_calls : (size : Size) (address n more found : ℕ) (a b : Tells) → AskedSome size address n more found a b → Calls a b
 some_calls size address n more found a b c =
-    calls_then a c.mid b (asked_calls more c.last a c.mid c.asked) (read_calls x8_number (element_at size address found) c.mid b c.read)
+    calls_then a c.mid b (asked_calls more c.last a c.mid c.asked) (apart_calls x8_number (element_at size address found) c.mid b c.read)
 
 -- ---- the end was shown, and more calls were made
 
@@ -52,10 +52,8 @@ record Asks8 (a b : Tells) : Type 0 where
   rest : List Act
   did : Did a (Put command_address (transfer_word false x8_number) ∷ rest) b
 
-asks8 : (value : ℕ) (a b : Tells) → RegisterRead x8_number value a b → Asks8 a b
-asks8 value a b (RegisterRead.at_once r) = record { rest = _; did = r.ended.did }
-asks8 value a b (RegisterRead.late mid early r) =
-    record { rest = _; did = did_then _ a mid early.ended.did (apart_calls x8_number value mid b r).acts b (apart_calls x8_number value mid b r).did }
+asks8 : (value : ℕ) (a b : Tells) → ReadApart x8_number value a b → Asks8 a b
+asks8 value a b r = record { rest = _; did = (apart_calls x8_number value a b r).did }
 
 -- ---- faults
 
@@ -87,9 +85,9 @@ pub run_fell_causes : (size : Size) (address n again count new_count : ℕ) (a b
     → RunFell size address n again count new_count a b e → Causes count new_count a b e
 run_fell_causes size address n again count new_count a b _ later (RunFell.asking e looks f) = asked_causes looks again count new_count a b e later f
 run_fell_causes size address n again count new_count a b _ later (RunFell.finding e last mid r f) =
-    causes_same a mid b (asked_calls again last a mid r) count new_count e later (read_causes x8_number count new_count mid b e later f)
+    causes_same a mid b (asked_calls again last a mid r) count new_count e later (apart_causes x8_number count new_count mid b e later f)
 run_fell_causes size address n again count new_count a b _ later (RunFell.refused found last mid r error least most x8) =
-    let q : Calls mid b = read_calls x8_number (element_at size address found) mid b x8 in
+    let q : Calls mid b = apart_calls x8_number (element_at size address found) mid b x8 in
     let s : ShownIn last (clearing (error_shown last) ++ (Put abstractauto_address 0 ∷ q.acts)) a b = shown_in again last a mid b q.acts r q.did in
     record {
       front = s.front;

@@ -31,8 +31,8 @@ use Rattle.probe_access.specs.CommandRuns.{BehindBegun, EndedBehind, clearing, e
 use Rattle.probe_access.specs.CommandRuns.BehindBegun.{clears, polls, together}
 use Rattle.probe_access.specs.Cuts.{IfCut}
 use Rattle.probe_access.specs.RegisterAccess.{next_word, x8_number}
-use Rattle.probe_access.specs.RegisterRuns.{ReadFailed}
-use Rattle.probe_access.proofs.CutHarts.{read_hung}
+use Rattle.probe_access.specs.RegisterRuns.{ReadApartFailed}
+use Rattle.probe_access.proofs.CutHarts.{apart_hung}
 use Rattle.probe_access.proofs.Along.{AtSites, SiteActs, Split, did_sites, site_acts-split}
 use Rattle.probe_access.proofs.AskedTold.RunGone.{all_gone, early_gone, fault_gone}
 use Rattle.probe_access.proofs.AskedTold.{RunGone, RunLeft, run_gone}
@@ -473,17 +473,17 @@ same_hung Y h bus y base told one p = hung_map (λ z. z ≡ y) Y h bus base told
 pub find_half : (C : ℕ → Hart → Site → Type 0) (P : ℕ → Hart → Memory → Hart → Memory → Type 0) (Q : ℕ → Memory → Type 0) (Y : Hart → Type 0)
     (N : ℕ → Memory → Memory → Type 0) (word : ℕ) (size : Size) (most last h : ℕ) (bus : BusUnit) (w : Hart) (b old_count new_count : ℕ) (mid new : Tells)
     (far : Far) (e : AccessFault) → Halves C P Q Y N size most → b ≤ most → mid.far ≡ Some far → RunLeft C Q word size last h bus w b (site_of far)
-    → ReadFailed x8_number old_count new_count mid new e → IfCut (HalfTold C Y N h bus b new.far) e
+    → ReadApartFailed x8_number old_count new_count mid new e → IfCut (HalfTold C Y N h bus b new.far) e
 find_half C P Q Y N word size most last h bus w b old_count new_count mid new far e f within is (RunLeft.done y base k shown c p st) g =
     if_cut (Hung (λ z. z ≡ y) h bus base new.far) (HalfTold C Y N h bus b new.far) e
     (λ q. let r : Hung Y h bus base new.far = same_hung Y h bus y base new.far (f.first b y base c) q in
     record { far = r.far; is = r.is; half = unbegun C Y N h bus b b y base (site_of r.far) (omega arith) c r.hung })
-    (read_hung x8_number h bus y base w old_count new_count mid new e (record { small = omega arith; other = refl }) (record { far = far; is = is; kept = k; stood = st }) g)
+    (apart_hung x8_number h bus y base w old_count new_count mid new e (record { small = omega arith; other = refl }) (record { far = far; is = is; kept = k; stood = st }) g)
 find_half C P Q Y N word size most last h bus w b old_count new_count mid new far e f within is (RunLeft.early i y base k shown below c p st) g =
     if_cut (Hung (λ z. z ≡ y) h bus base new.far) (HalfTold C Y N h bus b new.far) e
     (λ q. let r : Hung Y h bus base new.far = same_hung Y h bus y base new.far (f.first i y base c) q in
     record { far = r.far; is = r.is; half = unbegun C Y N h bus b i y base (site_of r.far) (omega (arith, below)) c r.hung })
-    (read_hung x8_number h bus y base w old_count new_count mid new e (record { small = omega arith; other = refl }) (record { far = far; is = is; kept = k; stood = st }) g)
+    (apart_hung x8_number h bus y base w old_count new_count mid new e (record { small = omega arith; other = refl }) (record { far = far; is = is; kept = k; stood = st }) g)
 find_half C P Q Y N word size most last h bus w b old_count new_count mid new far e f within is (RunLeft.fault i y base k before shown below c p q st) g =
     let m : Memory = (passed before base).board.memory in
     let next : Site = accessed m (passed before base) in
@@ -501,4 +501,4 @@ find_half C P Q Y N word size most last h bus w b old_count new_count mid new fa
         inside = made before m ((f.fits i y base c (omega (arith, below, within))).refused m q) r.hung;
       };
     })
-    (read_hung x8_number h bus y next w old_count new_count mid new e (record { small = omega arith; other = refl }) (record { far = far; is = is; kept = k; stood = st }) g)
+    (apart_hung x8_number h bus y next w old_count new_count mid new e (record { small = omega arith; other = refl }) (record { far = far; is = is; kept = k; stood = st }) g)

@@ -20,7 +20,7 @@ use Rattle.probe_access.specs.MemoryRuns.{PutBack}
 use Rattle.probe_access.specs.RegisterAccess.{next_word, store_word, x8_number, x9_number}
 use Rattle.probe_access.proofs.AccessEnd.{back_untold, saved_untold, written_untold}
 use Rattle.probe_access.proofs.Along.{did_untold}
-use Rattle.probe_access.proofs.AroundUntold.{behind_plain, command_plain, read_plain, write_plain}
+use Rattle.probe_access.proofs.AroundUntold.{behind_plain, command_plain, apart_plain, write_plain}
 use Rattle.probe_access.proofs.Aside.{HartAt, passed}
 use Rattle.probe_access.proofs.BlockAround.{BackWith, BlockInside, LeftWith, OnlyAt, PlainAt, around_at, around_ok, around_untold, plain_at, plain_at_map}
 use Rattle.probe_access.proofs.ElementSites.{not_stored_more, stood_turns, stored_more, turns_ready}
@@ -28,7 +28,7 @@ use Rattle.probe_access.proofs.ElementWords.{element_first}
 use Rattle.probe_access.proofs.LoadClauses.{fits_of}
 use Rattle.probe_access.proofs.ReadyTurns.{BoardReady}
 use Rattle.probe_access.proofs.ReadyUnit.{unit_of}
-use Rattle.probe_access.proofs.RegAnswers.{StoodTold, read_untold, stood_selects, stood_unit}
+use Rattle.probe_access.proofs.RegAnswers.{StoodTold, apart_untold, stood_selects, stood_unit}
 use Rattle.probe_access.proofs.RegClauses.{first_told, told_serving, untold_serving}
 use Rattle.probe_access.proofs.StoreEnds.{stores_only, stores_place}
 use Rattle.probe_access.specs.AskedRuns.{Asked, AskedFailed, AskedSome, RunFell}
@@ -101,7 +101,7 @@ asked_untold more last old new a is = did_untold a.mid _ new a.off (did_untold o
 
 pub some_untold : (size : Size) (address n more found : ℕ) (old new : Tells) → AskedSome size address n more found old new → old.far ≡ None → new.far ≡ None
 some_untold size address n more found old new c is =
-    read_untold x8_number (element_at size address found) c.mid new c.read (asked_untold more c.last old c.mid c.asked is)
+    apart_untold x8_number (element_at size address found) c.mid new c.read (asked_untold more c.last old c.mid c.asked is)
 
 stores_untold : (size : Size) (address value count : ℕ) (old : Tells) (n : ℕ) (new : Tells) → StoresOn size address value count old n new → old.far ≡ None
     → new.far ≡ None
@@ -179,12 +179,12 @@ run_fell_plain : (size : Size) (address count n again old_count new_count : ℕ)
 run_fell_plain size address count n again old_count new_count old new _ within none (RunFell.asking e looks f) =
     asked_plain (λ a. UntoldFault size address count a new) looks again old_count new_count old new e f
 run_fell_plain size address count n again old_count new_count old new _ within none (RunFell.finding e last mid a f) =
-    plain_at (λ a. UntoldFault size address count a new) e (read_plain x8_number 0 ⊥ old_count new_count mid new e f)
+    plain_at (λ a. UntoldFault size address count a new) e (apart_plain x8_number 0 ⊥ old_count new_count mid new e f)
 run_fell_plain size address count n again old_count new_count old new _ within none (RunFell.refused found last mid a error least most r) = record {
   done = found;
   below = omega (arith, within, most);
   at_is = refl;
-  untold = read_untold x8_number (element_at size address found) mid new r (asked_untold again last old mid a none);
+  untold = apart_untold x8_number (element_at size address found) mid new r (asked_untold again last old mid a none);
 }
 run_fell_plain size address count n again old_count new_count old new _ within none (RunFell.oddly shown last is a zero one three) = tt
 run_fell_plain size address count n again old_count new_count old new _ within none (RunFell.misplaced shown last x8 mid is a which r un) = tt

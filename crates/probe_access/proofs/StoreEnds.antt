@@ -15,8 +15,8 @@ use Rattle.probe_access.specs.Blocks.StoredEach.{nothing as none_stored}
 use Rattle.probe_access.specs.CommandRuns.{RanCommand, error_shown}
 use Rattle.probe_access.specs.ElementRuns.{StartFailed, Started, StoresFailed, StoresOn, block_program}
 use Rattle.probe_access.specs.RegisterAccess.{next_word, store_word, x8_number, x9_number}
-use Rattle.probe_access.specs.RegisterRuns.{RegisterRead, RegisterWritten}
-use Rattle.probe_access.proofs.AroundTold.{behind_clean, read_clean, reads_x8, write_clean, writes_x8, writes_x9}
+use Rattle.probe_access.specs.RegisterRuns.{ReadApart, RegisterWritten}
+use Rattle.probe_access.proofs.AroundTold.{behind_clean, apart_clean, reads_x8, write_clean, writes_x8, writes_x9}
 use Rattle.probe_access.proofs.AskedTold.{RunLeft}
 use Rattle.probe_access.proofs.AskedTold.RunLeft.{done, early, fault}
 use Rattle.probe_access.proofs.Aside.{HartAt, accessed, passed}
@@ -155,7 +155,7 @@ run_stood size address value count n last b h bus x s told far is (fault i y bas
 -- memory refused the element that x8 says
 refused_left : (size : Size) (address value count n last found b h : ℕ) (bus : BusUnit) (x : Hart) (s : Site) (mid new : Tells) (far : Far)
     → BlockAt size address count x s → b ≤ count → mid.far ≡ Some far → error_shown last ≡ 3
-    → RegisterRead x8_number (element_at size address found) mid new
+    → ReadApart x8_number (element_at size address found) mid new
     → RunLeft (StoreDone size address value count h bus x s n) (StoreRefuses size address) (store_word size) size last h bus x b (site_of far)
     → LeftWith (StoreFault size address value count (element_at size address found) h bus x s) h bus x new.far
 refused_left size address value count n last found b h bus x s mid new far env within is error r (done y base k shown c p st) =
@@ -181,7 +181,7 @@ refused_left size address value count n last found b h bus x s mid new far env w
 -- x8 stands at one of them
 placed_by : (size : Size) (address value count n more last x8 i h : ℕ) (bus : BusUnit) (x : Hart) (s : Site) (mid new : Tells) (y : Hart) (base : Site)
     (other : Site) (k : Kept) (far : Far) → BlockAt size address count x s → n + 1 + more ≤ count → mid.far ≡ Some far → i < n + 1 + more
-    → RegisterRead x8_number x8 mid new → Unplaced size address n more x8 → StoreDone size address value count h bus x s n i y base
+    → ReadApart x8_number x8 mid new → Unplaced size address n more x8 → StoreDone size address value count h bus x s n i y base
     → Stood h bus y other x k (site_of far) → ⊥
 placed_by size address value count n more last x8 i h bus x s mid new y base other k far env within is below r un c st =
     let e : EightRead x8 c.p value h bus x other new.far =
@@ -197,7 +197,7 @@ neither_one error none (inr e) = other_error error 0 3 none e (λ f. omega (arit
 
 placed : (size : Size) (address value count n more last x8 h : ℕ) (bus : BusUnit) (x : Hart) (s : Site) (mid new : Tells) (far : Far)
     → BlockAt size address count x s → n + 1 + more ≤ count → mid.far ≡ Some far → (error_shown last ≡ 1) ⊎ (error_shown last ≡ 3)
-    → RegisterRead x8_number x8 mid new → Unplaced size address n more x8
+    → ReadApart x8_number x8 mid new → Unplaced size address n more x8
     → RunLeft (StoreDone size address value count h bus x s n) (StoreRefuses size address) (store_word size) size last h bus x (n + 1 + more) (site_of far) → ⊥
 placed size address value count n more last x8 h bus x s mid new far env within is which r un (done y base k shown c p st) =
     neither_one (error_shown last) shown which
@@ -233,7 +233,7 @@ run_fell_only size address value count n again old_count new_count h bus x s old
     place_asked size address value count n again last h bus x s old mid env within pl a in
     let st : AnyStood h bus x mid.far = run_stood size address value count n last (n + 1 + again) h bus x s mid.far r.far r.is r.left in
     clean_at (λ at. LeftWith (StoreFault size address value count at h bus x s) h bus x new.far) e
-    (read_clean x8_number h bus st.hart st.base x old_count new_count mid new e (record { small = omega arith; other = refl }) (reads_x8 st.hart) st.then f)
+    (apart_clean x8_number h bus st.hart st.base x old_count new_count mid new e (record { small = omega arith; other = refl }) (reads_x8 st.hart) st.then f)
 run_fell_only size address value count n again old_count new_count h bus x s old new _ env within pl (RunFell.refused found last mid a error least most r) =
     let at : StoreRun size address value count n last h bus x s (n + 1 + again) mid.far =
     place_asked size address value count n again last h bus x s old mid env within pl a in

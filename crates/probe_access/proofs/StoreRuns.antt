@@ -13,7 +13,7 @@ use Rattle.probe_run.specs.Acts.{Tells}
 use Rattle.probe_access.specs.AskedRuns.{Asked, AskedAll, AskedSome}
 use Rattle.probe_access.specs.Blocks.{StoredEach, element_at}
 use Rattle.probe_access.specs.RegisterAccess.{store_word, x8_number}
-use Rattle.probe_access.specs.RegisterRuns.{RegisterRead}
+use Rattle.probe_access.specs.RegisterRuns.{ReadApart}
 use Rattle.probe_access.proofs.AccessSteps.{WordDid}
 use Rattle.probe_access.proofs.AccessTold.{held_as}
 use Rattle.probe_access.proofs.AskedTold.{RunLeft, RunTold, asked_told}
@@ -28,7 +28,7 @@ use Rattle.probe_access.proofs.ReadyUnit.{Held, Kept}
 use Rattle.probe_access.proofs.NextTold.{IsProgram}
 use Rattle.probe_access.proofs.RegisterTold.{Stood}
 use Rattle.probe_access.specs.CommandRuns.{error_shown}
-use Rattle.probe_access.proofs.RegAnswers.{ReadTold, StoodTold, read_told}
+use Rattle.probe_access.proofs.RegAnswers.{ReadTold, StoodTold, apart_told}
 use Rattle.probe_access.proofs.ScratchLemmas.{scratched, x8_value}
 use Rattle.probe_access.proofs.StorePlaces.{BlockAt, Prepared, StorePlace, StoredNext, element_decides, on_it, stored_next}
 use Rattle.probe_access.proofs.WordAccess.{StoreFaults, Stores}
@@ -174,10 +174,10 @@ pub record EightRead (v p q h : ℕ) (bus : BusUnit) (x : Hart) (base : Site) (t
   pub then : StoodTold h bus (scratched p q x) base x told
 
 pub eight_read : (v p q h : ℕ) (bus : BusUnit) (x : Hart) (base : Site) (old new : Tells) → length x.core.x ≡ 32
-    → StoodTold h bus (scratched p q x) base x old.far → RegisterRead x8_number v old new → EightRead v p q h bus x base new.far
+    → StoodTold h bus (scratched p q x) base x old.far → ReadApart x8_number v old new → EightRead v p q h bus x base new.far
 eight_read v p q h bus x base old new all st r =
     let y : Hart = scratched p q x in
-    let a : ReadTold x8_number v h bus y base x new.far = read_told x8_number v h bus y base x old new (record { small = omega arith; other = refl }) st r in
+    let a : ReadTold x8_number v h bus y base x new.far = apart_told x8_number v h bus y base x old new (record { small = omega arith; other = refl }) st r in
     record {
       value_is = λ small. held_as y x8_number a.held v p (x8_value y ∙ ap Some (scratched_x8 p q x all)) a.held_is a.value_is small;
       then = a.then;
@@ -194,7 +194,7 @@ pub record StoreCut (size : Size) (address value count found h : ℕ) (bus : Bus
 
 early_left : (size : Size) (address value count n last found b h : ℕ) (bus : BusUnit) (x : Hart) (s : Site) (mid new : Tells) (far : Far)
     → BlockAt size address count x s → b ≤ count → found < b → mid.far ≡ Some far → error_shown last ≡ 1
-    → RegisterRead x8_number (element_at size address found) mid new
+    → ReadApart x8_number (element_at size address found) mid new
     → RunLeft (StoreDone size address value count h bus x s n) (StoreRefuses size address) (store_word size) size last h bus x b (site_of far)
     → StoreCut size address value count found h bus x s new.far
 early_left size address value count n last found b h bus x s mid new far env within below is error r (done y base k shown c p st) =

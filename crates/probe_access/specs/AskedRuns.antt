@@ -19,7 +19,7 @@ use Rattle.probe_access.specs.Blocks.{element_at}
 use Rattle.probe_access.specs.CommandRuns.{EndBehindFailed, EndedBehind, error_shown, poll_act}
 use Rattle.probe_access.specs.Faults.{BrokeIn}
 use Rattle.probe_access.specs.RegisterAccess.{next_word, x8_number}
-use Rattle.probe_access.specs.RegisterRuns.{ReadFailed, RegisterRead, exception_error, no_error}
+use Rattle.probe_access.specs.RegisterRuns.{ReadApart, ReadApartFailed, exception_error, no_error}
 
 -- the number of cmderr for an access to a word, or a command, that came while one was under way
 abbrev pub early_error : ℕ
@@ -103,7 +103,7 @@ pub record AskedSome (size : Size) (address n more found : ℕ) (old new : Tells
   pub error_is : error_shown last ≡ early_error
   pub least : n ≤ found
   pub most : found < n + 1 + more
-  pub read : RegisterRead x8_number (element_at size address found) mid new
+  pub read : ReadApart x8_number (element_at size address found) mid new
 
 -- by the answer
 abbrev pub AskedBy : Size → ℕ → ℕ → ℕ → Option ℕ → Tells → Tells → Type 0
@@ -117,15 +117,15 @@ Unplaced size address n more x8 = (i : ℕ) → n ≤ i → i < n + 1 + more →
 -- a call failed; memory refused the element whose address x8 has; or an error was shown that is neither, or that x8 does not fit
 pub data RunFell (size : Size) (address n more old_count new_count : ℕ) (old new : Tells) : AccessFault → Type 0 where
   asking : (e : AccessFault) (looks : ℕ) → AskedFailed looks more old_count new_count old new e → RunFell size address n more old_count new_count old new e
-  finding : (e : AccessFault) (last : ℕ) (mid : Tells) → Asked more last old mid → ReadFailed x8_number old_count new_count mid new e
+  finding : (e : AccessFault) (last : ℕ) (mid : Tells) → Asked more last old mid → ReadApartFailed x8_number old_count new_count mid new e
       → RunFell size address n more old_count new_count old new e
   refused : (found last : ℕ) (mid : Tells) → Asked more last old mid → error_shown last ≡ exception_error → n ≤ found → found < n + 1 + more
-      → RegisterRead x8_number (element_at size address found) mid new
+      → ReadApart x8_number (element_at size address found) mid new
       → RunFell size address n more old_count new_count old new (fault.Memory (element_at size address found))
   oddly : (shown : OddStatus) (last : ℕ) → shown ≡ Abstractcs last → Asked more last old new → error_shown last ≢ no_error → error_shown last ≢ early_error
       → error_shown last ≢ exception_error → RunFell size address n more old_count new_count old new (fault.Odd shown)
   misplaced : (shown : OddStatus) (last x8 : ℕ) (mid : Tells) → shown ≡ Abstractcs last → Asked more last old mid
-      → (error_shown last ≡ early_error) ⊎ (error_shown last ≡ exception_error) → RegisterRead x8_number x8 mid new → Unplaced size address n more x8
+      → (error_shown last ≡ early_error) ⊎ (error_shown last ≡ exception_error) → ReadApart x8_number x8 mid new → Unplaced size address n more x8
       → RunFell size address n more old_count new_count old new (fault.Odd shown)
 
 -- why a run has no number of elements, by the address in x8

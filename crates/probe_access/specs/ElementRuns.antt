@@ -22,8 +22,8 @@ use Rattle.probe_access.specs.RegisterRuns.{
   DoubleReads,
   RanOddly,
   RanTo,
-  ReadFailed,
-  RegisterRead,
+  ReadApart,
+  ReadApartFailed,
   RegisterWritten,
   WriteFailed,
   exception_error,
@@ -91,7 +91,7 @@ pub record LoadsInside (size : Size) (address count : ℕ) (values : List ℕ) (
   pub are : values ≡ front ++ last ∷ []
   pub mid : Tells
   pub on : LoadsOn size address count old front mid
-  pub read : RegisterRead x9_number last mid new
+  pub read : ReadApart x9_number last mid new
 
 -- it failed when these had been handed out
 pub data LoadsFailed (size : Size) (address count : ℕ) (values : List ℕ) (old_count new_count : ℕ) (old new : Tells) : AccessFault → Type 0 where
@@ -106,7 +106,7 @@ pub data LoadsFailed (size : Size) (address count : ℕ) (values : List ℕ) (ol
       → Handed exception_error last mid new
       → LoadsFailed size address count values old_count new_count old new (fault.Memory (element_at size address (length values)))
   in_last : (e : AccessFault) (mid : Tells) → length values + 1 ≡ count → LoadsOn size address count old values mid
-      → ReadFailed x9_number old_count new_count mid new e → LoadsFailed size address count values old_count new_count old new e
+      → ReadApartFailed x9_number old_count new_count mid new e → LoadsFailed size address count values old_count new_count old new e
 
 -- the whole block, with x8 and x9 saved and put back
 abbrev pub LoadRuns : Size → ℕ → ℕ → Tells → List ℕ → Tells → Type 0

@@ -14,7 +14,9 @@ use Rattle.probe_access.specs.RegisterRuns.{
   RanTo,
   ReadFailed,
   RegisterRead,
+  RegisterSaved,
   RegisterWritten,
+  SavingFailed,
   WriteFailed,
   double_written,
   exception_error,
@@ -29,12 +31,12 @@ use Rattle.probe_access.specs.RegisterAccess.{ebreak_word, load_word, program_wo
 
 pub record Saved (x8 x9 : ℕ) (old new : Tells) : Type 0 where
   pub mid : Tells
-  pub first : RegisterRead x8_number x8 old mid
-  pub second : RegisterRead x9_number x9 mid new
+  pub first : RegisterSaved x8_number x8 old mid
+  pub second : RegisterSaved x9_number x9 mid new
 
 pub data SaveFailed (old_count new_count : ℕ) (old new : Tells) (e : AccessFault) : Type 0 where
-  at_x8 : ReadFailed x8_number old_count new_count old new e → SaveFailed old_count new_count old new e
-  at_x9 : (x8 : ℕ) (mid : Tells) → RegisterRead x8_number x8 old mid → ReadFailed x9_number old_count new_count mid new e
+  at_x8 : SavingFailed x8_number old_count new_count old new e → SaveFailed old_count new_count old new e
+  at_x9 : (x8 : ℕ) (mid : Tells) → RegisterSaved x8_number x8 old mid → SavingFailed x9_number old_count new_count mid new e
       → SaveFailed old_count new_count old new e
 
 pub record PutBack (x8 x9 : ℕ) (old new : Tells) : Type 0 where

@@ -19,7 +19,7 @@ use Rattle.probe_access.specs.declared.odd.OddStatus.{OddStatus}
 use Rattle.probe_access.specs.declared.odd.OddStatus.TheVariants.{Abstractcs}
 use Rattle.probe_access.specs.AskedRuns.{Switching, early_error, looks_of}
 use Rattle.probe_access.specs.Blocks.{element_at}
-use Rattle.probe_access.specs.CommandRuns.{EndBehindFailed, EndedBehind, error_shown, poll_act}
+use Rattle.probe_access.specs.CommandRuns.{EndBehindFailed, EndedBehind, error_shown, poll_act, shows_busy}
 use Rattle.probe_access.specs.Faults.{Among, BrokeIn}
 use Rattle.probe_access.specs.RegisterAccess.{joined, next_word, x8_number}
 use Rattle.probe_access.specs.RegisterRuns.{DoubleRead, DoubleReads, ReadApart, ReadApartFailed, exception_error, no_error}
@@ -104,6 +104,60 @@ pub data AskLoadsFailed (wide : Bool) (looks more old_count new_count : ℕ) (ol
   in_switch : (front : List Act) (last : ℕ) (mid : Tells) → ReadFront wide more front → EndedBehind front last old mid → (why : DmiFault)
       → e ≡ fault.Dmi why → BrokeIn Switching old_count new_count mid new.far why → AskLoadsFailed wide looks more old_count new_count old new e
 
+-- ---- the same, where each word is read behind the end of the access that a poll showed
+
+-- each element's words were read right behind a poll that showed neither a command under way nor an error
+pub data AwaitedReads (wide : Bool) : List ℕ → List Act → Type 0 where
+  nothing : AwaitedReads wide [] []
+  look : (values : List ℕ) (acts : List Act) (word : ℕ) → AwaitedReads wide values acts → AwaitedReads wide values (poll_act word ∷ acts)
+  element : (values : List ℕ) (acts : List Act) (last low high : ℕ) → wide ≡ true → shows_busy last ≡ false → error_shown last ≡ no_error
+      → AwaitedReads wide values acts
+      → AwaitedReads wide (joined low high ∷ values) (poll_act last ∷ Got data1_address high ∷ Got data0_address low ∷ acts)
+  narrow : (values : List ℕ) (acts : List Act) (last low : ℕ) → wide ≡ false → shows_busy last ≡ false → error_shown last ≡ no_error
+      → AwaitedReads wide values acts → AwaitedReads wide (low ∷ values) (poll_act last ∷ Got data0_address low ∷ acts)
+
+pub record AwaitedRead (wide : Bool) (read : List ℕ) (last : ℕ) (old new : Tells) : Type 0 where
+  pub reads : List Act
+  pub are : AwaitedReads wide read reads
+  pub ran : EndedBehind (run_reads reads) last old new
+
+-- and autoexec is off again
+pub record AwaitedLoads (wide : Bool) (read : List ℕ) (last : ℕ) (old new : Tells) : Type 0 where
+  pub mid : Tells
+  pub ran : AwaitedRead wide read last old mid
+  pub off : Did mid (Put abstractauto_address 0 ∷ []) new
+
+-- one of them: its words, and the polls for the end of the access that the lower one starts
+pub data OneElement (wide : Bool) : ℕ → List Act → Type 0 where
+  double : (low high : ℕ) → wide ≡ true → OneElement wide (joined low high) (Got data1_address high ∷ Got data0_address low ∷ [])
+  single : (low : ℕ) → wide ≡ false → OneElement wide low (Got data0_address low ∷ [])
+
+pub record ElementRead (wide : Bool) (value last : ℕ) (old new : Tells) : Type 0 where
+  pub words : List Act
+  pub are : OneElement wide value words
+  pub ran : EndedBehind words last old new
+
+pub data ElementFront (wide : Bool) : List Act → Type 0 where
+  asked : (value : ℕ) (words : List Act) → OneElement wide value words → ElementFront wide words
+
+abbrev pub first_op : Bool → DmiOp
+first_op true = Read data1_address
+first_op false = Read data0_address
+
+abbrev pub later_ops : Bool → List DmiOp
+later_ops true = Read data0_address ∷ Read abstractcs_address ∷ []
+later_ops false = Read abstractcs_address ∷ []
+
+abbrev pub ElementFailed : Bool → ℕ → ℕ → Tells → Tells → AccessFault → Type 0
+ElementFailed wide old_count new_count old new e =
+    EndBehindFailed (ElementFront wide) (first_op wide) (later_ops wide) old_count new_count old new e
+
+-- at its start or in switching autoexec off, or behind some elements at the next one's; fewer than so many were read
+pub data AwaitingFailed (wide : Bool) (most old_count new_count : ℕ) (old new : Tells) (e : AccessFault) : Type 0 where
+  asking : (looks more : ℕ) → more ≤ most → AskLoadsFailed wide looks more old_count new_count old new e → AwaitingFailed wide most old_count new_count old new e
+  reading : (read : List ℕ) (last : ℕ) (mid : Tells) → length read < most → AwaitedRead wide read last old mid → error_shown last ≡ no_error
+      → ElementFailed wide old_count new_count mid new e → AwaitingFailed wide most old_count new_count old new e
+
 -- ---- how far it came, with so many handed out before, and one in x9
 
 -- what was read in the run, and then the element that the data words hold: all of it; or up to the error, where words came too early
@@ -131,6 +185,8 @@ Misplaced size address handed more error x8 =
 pub data RunLoadsFailed (size : Size) (address count handed : ℕ) (values : List ℕ) (old_count new_count : ℕ) (old new : Tells) : AccessFault → Type 0 where
   asking : (e : AccessFault) (looks more : ℕ) → values ≡ [] → handed + 2 + more < count → AskLoadsFailed (is_wide size) looks more old_count new_count old new e
       → RunLoadsFailed size address count handed values old_count new_count old new e
+  awaiting : (e : AccessFault) (most : ℕ) → values ≡ [] → handed + 2 + most < count → AwaitingFailed (is_wide size) most old_count new_count old new e
+      → RunLoadsFailed size address count handed values old_count new_count old new e
   in_words : (why : DmiFault) (read : List ℕ) (last : ℕ) (mid : Tells) → values ≡ [] → handed + 2 + length read < count
       → AskedLoads (is_wide size) read last old mid
       → BrokeIn (Among DoubleReads) old_count new_count mid new.far why
@@ -144,6 +200,9 @@ pub data RunLoadsFailed (size : Size) (address count handed : ℕ) (values : Lis
       → RunLoadsFailed size address count handed values old_count new_count old new (fault.Memory (element_at size address (handed + 1 + made)))
   oddly : (shown : OddStatus) (read : List ℕ) (last : ℕ) → shown ≡ Abstractcs last → values ≡ [] → handed + 2 + length read < count
       → AskedLoads (is_wide size) read last old new → error_shown last ≢ no_error → error_shown last ≢ early_error → error_shown last ≢ exception_error
+      → RunLoadsFailed size address count handed values old_count new_count old new (fault.Odd shown)
+  awaited_oddly : (shown : OddStatus) (read : List ℕ) (last : ℕ) → shown ≡ Abstractcs last → values ≡ [] → handed + 2 + length read < count
+      → AwaitedLoads (is_wide size) read last old new → error_shown last ≢ no_error → error_shown last ≢ exception_error
       → RunLoadsFailed size address count handed values old_count new_count old new (fault.Odd shown)
   misplaced : (shown : OddStatus) (read : List ℕ) (value last x8 : ℕ) (mid then : Tells) → shown ≡ Abstractcs last → values ≡ []
       → handed + 2 + length read < count → AskedLoads (is_wide size) read last old mid → (error_shown last ≡ early_error) ⊎ (error_shown last ≡ exception_error)

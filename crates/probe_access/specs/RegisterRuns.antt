@@ -127,6 +127,16 @@ pub data ReadFailed (number old_count new_count : ℕ) (old new : Tells) (e : Ac
   late : (mid : Tells) → ReadTooEarly number old mid → ReadApartFailed number old_count new_count mid new e
       → ReadFailed number old_count new_count old new e
 
+-- ---- a register is saved: read so, or by calls of their own alone
+
+pub data RegisterSaved (number value : ℕ) (old new : Tells) : Type 0 where
+  read : RegisterRead number value old new → RegisterSaved number value old new
+  apart : ReadApart number value old new → RegisterSaved number value old new
+
+pub data SavingFailed (number old_count new_count : ℕ) (old new : Tells) (e : AccessFault) : Type 0 where
+  reading : ReadFailed number old_count new_count old new e → SavingFailed number old_count new_count old new e
+  apart : ReadApartFailed number old_count new_count old new e → SavingFailed number old_count new_count old new e
+
 -- ---- a register is written
 
 -- the command, behind the words of the value

@@ -15,6 +15,8 @@ ghost use Rattle.probe_access.specs.ElementRuns.{LoadRuns, LoadRunsFailed, Loads
 ghost use Rattle.debug_model.specs.Kept.{CanCall, Keeps};
 ghost use Rattle.probe_run.specs.Told.{Fails, OnChip, told};
 ghost use Rattle.probe_access.specs.Faults.{access_why};
+ghost use Rattle.probe_access.specs.Spent.{DidAtMost, IfUnbroken};
+ghost use Rattle.debug_model.specs.Addresses.{abstractcs_address};
 ghost use Rattle.probe_access.specs.ReadRuns.{is_wide};
 ghost use Rattle.probe_run.specs.Told.{Serving};
 
@@ -23,8 +25,8 @@ use crate::fault::AccessFault;
 use crate::load_runs::load_front;
 use crate::program::X9;
 use crate::runs::store_front;
-use crate::scratch::save_scratch;
-use crate::transfers::read_register;
+use crate::scratch::fetch_scratch;
+use crate::transfers::read_apart;
 use arrayvec::ArrayVec;
 use debug_model::Dmi;
 use probe_run::Halted;
@@ -58,6 +60,8 @@ fn load_elements<D: Dmi>(
     ensures all { OnOk result (length into.new.items ≡ count) }
     ensures loaded { OnOk result (LoadsInside size address count into.new.items (told (D.seen link.old)) (told (D.seen link.new))) }
     ensures failed { IfErr result (Fails (LoadsFailed size address count into.new.items) (D.seen link.old) (D.seen link.new)) }
+    ensures few { OnOk result (DidAtMost abstractcs_address (3 * count + 11) (told (D.seen link.old)) (told (D.seen link.new))) }
+    ensures few_failed { IfErr result (IfUnbroken (DidAtMost abstractcs_address (3 * count + 11) (told (D.seen link.old)) (told (D.seen link.new)))) }
     ensures rises { Within (82 * count + 16) (D.seen link.old) (D.seen link.new) }
     ensures keeps { Keeps access_why (D.seen link.old) (D.seen link.new) result }
 {
@@ -71,7 +75,7 @@ fn load_elements<D: Dmi>(
             return Err(AccessFault::Memory(at));
         }
     }
-    let last = read_register(link, X9)?;
+    let last = read_apart(link, X9)?;
     into.push(last);
     Ok(())
 }
@@ -90,6 +94,8 @@ fn store_elements<D: Dmi>(
     requires ends { address + count * count_of size ≤ all_addresses }
     ensures stored { OnOk result (StoresOn size address value count (told (D.seen link.old)) count (told (D.seen link.new))) }
     ensures failed { IfErr result (Fails (StoresFailed size address value count) (D.seen link.old) (D.seen link.new)) }
+    ensures few { OnOk result (DidAtMost abstractcs_address (3 * count + 11) (told (D.seen link.old)) (told (D.seen link.new))) }
+    ensures few_failed { IfErr result (IfUnbroken (DidAtMost abstractcs_address (3 * count + 11) (told (D.seen link.old)) (told (D.seen link.new)))) }
     ensures rises { Within (63 * count + 256) (D.seen link.old) (D.seen link.new) }
     ensures keeps { Keeps access_why (D.seen link.old) (D.seen link.new) result }
 {
@@ -117,10 +123,12 @@ fn loads_around<D: Dmi>(
     ensures all { OnOk result (length into.new.items ≡ count) }
     ensures loaded { OnOk result (LoadRuns size address count (told (D.seen link.old)) into.new.items (told (D.seen link.new))) }
     ensures failed { IfErr result (Fails (LoadRunsFailed size address count into.new.items) (D.seen link.old) (D.seen link.new)) }
+    ensures few { OnOk result (DidAtMost abstractcs_address (3 * count + 24) (told (D.seen link.old)) (told (D.seen link.new))) }
+    ensures few_failed { IfErr result (IfUnbroken (DidAtMost abstractcs_address (3 * count + 24) (told (D.seen link.old)) (told (D.seen link.new)))) }
     ensures rises { Within (load_rises count) (D.seen link.old) (D.seen link.new) }
     ensures keeps { Keeps access_why (D.seen link.old) (D.seen link.new) result }
 {
-    let scratch = save_scratch(link)?;
+    let scratch = fetch_scratch(link)?;
     match load_elements(link, size, address, count, into) {
         Ok(()) => {
             scratch.put_back(link)?;
@@ -158,6 +166,8 @@ pub fn load_block<D: Dmi>(
     ensures cut { IfErr result (IfCut (Leaves (BlockLoadCut size address count into.new.items halted.now.number) (D.seen link.old).far (D.seen link.new).far)) }
     ensures serving { OnOk result (Serving halted.now.number (D.seen link.new).far) }
     ensures serving_still { IfErr result (IfMemory (Serving halted.now.number (D.seen link.new).far)) }
+    ensures few { OnOk result (DidAtMost abstractcs_address (3 * count + 24) (told (D.seen link.old)) (told (D.seen link.new))) }
+    ensures few_failed { IfErr result (IfUnbroken (DidAtMost abstractcs_address (3 * count + 24) (told (D.seen link.old)) (told (D.seen link.new)))) }
     ensures rises { Within (load_rises count) (D.seen link.old) (D.seen link.new) }
     ensures keeps { Keeps access_why (D.seen link.old) (D.seen link.new) result }
 {
@@ -180,10 +190,12 @@ fn stores_around<D: Dmi>(
     requires ends { address + count * count_of size ≤ all_addresses }
     ensures stored { OnOk result (StoreRuns size address value (told (D.seen link.old)) count (told (D.seen link.new))) }
     ensures failed { IfErr result (Fails (StoreRunsFailed size address value count) (D.seen link.old) (D.seen link.new)) }
+    ensures few { OnOk result (DidAtMost abstractcs_address (3 * count + 24) (told (D.seen link.old)) (told (D.seen link.new))) }
+    ensures few_failed { IfErr result (IfUnbroken (DidAtMost abstractcs_address (3 * count + 24) (told (D.seen link.old)) (told (D.seen link.new)))) }
     ensures rises { Within (store_rises count) (D.seen link.old) (D.seen link.new) }
     ensures keeps { Keeps access_why (D.seen link.old) (D.seen link.new) result }
 {
-    let scratch = save_scratch(link)?;
+    let scratch = fetch_scratch(link)?;
     match store_elements(link, size, address, count, value) {
         Ok(()) => {
             scratch.put_back(link)?;
@@ -217,6 +229,8 @@ pub fn store_block<D: Dmi>(
     ensures cut { IfErr result (IfCut (Leaves (BlockStoreCut size address value count halted.now.number) (D.seen link.old).far (D.seen link.new).far)) }
     ensures serving { OnOk result (Serving halted.now.number (D.seen link.new).far) }
     ensures serving_still { IfErr result (IfMemory (Serving halted.now.number (D.seen link.new).far)) }
+    ensures few { OnOk result (DidAtMost abstractcs_address (3 * count + 24) (told (D.seen link.old)) (told (D.seen link.new))) }
+    ensures few_failed { IfErr result (IfUnbroken (DidAtMost abstractcs_address (3 * count + 24) (told (D.seen link.old)) (told (D.seen link.new)))) }
     ensures rises { Within (store_rises count) (D.seen link.old) (D.seen link.new) }
     ensures keeps { Keeps access_why (D.seen link.old) (D.seen link.new) result }
 {

@@ -20,6 +20,7 @@ mod doubles;
 mod elements;
 mod fault;
 mod inside;
+mod load_awaits;
 mod load_runs;
 mod memory;
 mod odd;

@@ -2,10 +2,10 @@
 //! read of data0 takes the word that was handed out and starts it again (RISC-V Debug Specification 1.0, "Abstract Command Autoexec"). An element of at
 //! most 4 bytes was loaded with its upper bits 0, so data1 is read for elements of 8 bytes alone.
 
-ghost use Rattle.std.specs.Prelude.{◌≡◌, ◌≤◌, ◌<◌, ◌+◌, ◌*◌, ◌^◌, ◌++◌, ◌∷◌, [], true, length, take, drop, None, IfErr, IfOk, IfSome, OnOk};
+ghost use Rattle.std.specs.Prelude.{◌≡◌, ◌≤◌, ◌<◌, ◌+◌, ◌-◌, ◌*◌, ◌^◌, ◌++◌, ◌∷◌, [], true, length, take, drop, None, IfErr, IfOk, IfSome, OnOk};
 ghost use Rattle.rv_model.specs.Size.{count_of};
 ghost use Rattle.debug_model.specs.Rises.{Within};
-ghost use Rattle.debug_model.specs.Addresses.{abstractauto_address};
+ghost use Rattle.debug_model.specs.Addresses.{abstractauto_address, abstractcs_address};
 ghost use Rattle.debug_model.specs.Command.{all_addresses, most_elements};
 ghost use Rattle.debug_model.specs.Kept.{CanCall, Keeps};
 ghost use Rattle.debug_model.specs.Many.{operations_most};
@@ -15,6 +15,7 @@ ghost use Rattle.probe_access.specs.ElementRuns.{LoadsFailed, LoadsOn};
 ghost use Rattle.probe_access.specs.Faults.{access_why};
 ghost use Rattle.probe_access.specs.ReadRuns.{AskLoadsFailed, AskedLoads, HandedMore, HandingFailed, LoadsAsking, LoadsRead, NoneMade, element_of};
 ghost use Rattle.probe_access.specs.ReadRuns.{element_ops, is_wide, load_ops, own_words, reads_most, values_read};
+ghost use Rattle.probe_access.specs.Spent.{DidAtMost, IfUnbroken, loads_spend};
 ghost use Rattle.probe_run.specs.Told.{Fails, told};
 
 use crate::blocks::{ELEMENTS_MOST, element};
@@ -22,9 +23,10 @@ use crate::commands::end_command;
 use crate::doubles::{join, read_double};
 use crate::elements::{next_command, start_block};
 use crate::fault::AccessFault;
+use crate::load_awaits::load_awaited;
 use crate::odd::OddStatus;
 use crate::program::{X8, element_load_of};
-use crate::runs::{BY_DATA0, EARLY, LOOKS_MOST, Run, next_run, place_of, put, put_looks};
+use crate::runs::{BY_DATA0, EARLY, LOOKS_MOST, Run, TRIAL, next_run, place_of, put, put_looks};
 use crate::transfers::{EXCEPTION, read_apart};
 use arrayvec::ArrayVec;
 use debug_model::{
@@ -32,8 +34,17 @@ use debug_model::{
 };
 use rv_model::Size;
 
+/// How many operations besides polls the address, the program and the first element take.
+const STARTED: u16 = 7;
+
+/// How many a run takes besides the words of the elements behind its first.
+const AROUND_WHOLE: u16 = 5;
+
+/// How many it takes where a word was read too early.
+const AROUND_EARLY: u16 = 9;
+
 /// How many words of an element are read.
-fn own_words(size: Size) -> u16
+pub fn own_words(size: Size) -> u16
     ensures words { result ≡ own_words (is_wide size) }
     ensures some { 1 ≤ result }
     ensures few { result ≤ 2 }
@@ -45,7 +56,7 @@ fn own_words(size: Size) -> u16
 }
 
 /// Puts the reads of one element at a place and answers the place behind them. Its lower word comes last, since it starts the next access.
-fn put_element(size: Size, operations: &mut [DmiOp], at: usize) -> usize
+pub fn put_element(size: Size, operations: &mut [DmiOp], at: usize) -> usize
     requires room { at + own_words (is_wide size) ≤ length operations.old }
     ensures put { take result operations.new ≡ take at operations.old ++ element_ops (is_wide size) }
     ensures behind { result ≡ at + own_words (is_wide size) }
@@ -65,7 +76,7 @@ fn put_element(size: Size, operations: &mut [DmiOp], at: usize) -> usize
 }
 
 /// The element of the words from a place on.
-fn element_of(size: Size, words: &[u32], at: usize) -> u64
+pub fn element_of(size: Size, words: &[u32], at: usize) -> u64
     requires there { at + own_words (is_wide size) ≤ length words.now }
     ensures { result ≡ element_of (is_wide size) (drop at words.now) }
 {
@@ -97,7 +108,7 @@ fn fill_loads(size: Size, run: Run, operations: &mut [DmiOp]) -> usize
 }
 
 /// Asks for an element and those of a run behind it, in one call, and answers `abstractcs` as it was at their end. An error that it shows is cleared.
-fn ask_loads<D: Dmi>(
+pub fn ask_loads<D: Dmi>(
     link: &mut D,
     size: Size,
     run: Run,
@@ -145,7 +156,7 @@ fn run_loads<D: Dmi>(
 }
 
 /// How many accesses a run made, from `least` up to `more`, by the address in x8, where so many elements were handed out before it.
-fn made_of(size: Size, address: u64, handed: u16, least: u16, more: u16, x8: u64) -> Option<u16>
+pub fn made_of(size: Size, address: u64, handed: u16, least: u16, more: u16, x8: u64) -> Option<u16>
     requires few { handed + 2 + more ≤ most_elements }
     requires ends { address + (handed + 2 + more) * count_of size < 2 ^ 64 }
     ensures there { IfSome result (λ made. (least ≤ made) × (made ≤ more) × (x8 ≡ element_at size address (handed + 1 + made))) }
@@ -202,6 +213,10 @@ fn load_run<D: Dmi>(
     ensures more { OnOk result (length into.old.items < length into.new.items) }
     ensures whole { IfOk result (λ whole. whole ≡ true → length into.new.items ≡ length into.old.items + run.more + 1) }
     ensures most { OnOk result (length into.new.items + 1 < count) }
+    ensures few { IfOk result
+        (λ whole. DidAtMost abstractcs_address (loads_spend (run.more * own_words (is_wide size)) whole) (told (D.seen link.old)) (told (D.seen link.new))) }
+    ensures few_failed { IfErr result (IfUnbroken
+        (DidAtMost abstractcs_address (run.more * own_words (is_wide size) + 9) (told (D.seen link.old)) (told (D.seen link.new)))) }
     ensures failed { IfErr result (Fails (HandingFailed size address count into.old.items into.new.items) (D.seen link.old) (D.seen link.new)) }
     ensures rises { Within (run.more * (run.looks + own_words (is_wide size)) + 18) (D.seen link.old) (D.seen link.new) }
     ensures keeps { Keeps access_why (D.seen link.old) (D.seen link.new) result }
@@ -237,8 +252,33 @@ fn load_run<D: Dmi>(
     }
 }
 
+/// How many elements may come behind the first of a run, with `left` more than three of a block not handed out, for so many operations: where the run
+/// comes too early at once, and each of the rest is then awaited, the block takes no more than 3 for each element and 11.
+fn load_room(size: Size, count: u16, left: u16, spent: u16) -> u16
+    requires few { count ≤ most_elements }
+    requires some { (1 ≤ left) × (left ≤ count) }
+    ensures most { 1 ≤ result → spent + 9 + (result + left - 1) * own_words (is_wide size) ≤ 3 * count }
+{
+    let own = own_words(size);
+    let others = AROUND_EARLY + (left - 1) * own;
+    (3 * count).saturating_sub(spent.saturating_add(others)) / own
+}
+
+/// How many operations besides polls a run took whose elements behind its first have so many words, by whether it was whole.
+fn spent_by(words: u16, whole: bool) -> u16
+    requires few { words ≤ reads_most }
+    ensures { result ≡ loads_spend words whole }
+{
+    if whole {
+        words + AROUND_WHOLE
+    } else {
+        words + AROUND_EARLY
+    }
+}
+
 /// Loads the first element of a block, and the others in runs but for the last ones, by x8 and x9 of the selected hart, and hands out all but the one
-/// that was loaded last, which x9 holds. Where a word was read too early the next run has one more look in front of each element.
+/// that was loaded last, which x9 holds. Where a word was read too early the next run has one more look in front of each element; where one more that comes
+/// too early might take more operations than a block may, each of the rest is awaited.
 pub fn load_front<D: Dmi>(
     link: &mut D,
     size: Size,
@@ -253,21 +293,37 @@ pub fn load_front<D: Dmi>(
     requires empty { into.old.items ≡ [] }
     ensures on { OnOk result (LoadsOn size address count (told (D.seen link.old)) into.new.items (told (D.seen link.new))) }
     ensures most { OnOk result (length into.new.items < count) }
+    ensures few { OnOk result (DidAtMost abstractcs_address (3 * length into.new.items + 11) (told (D.seen link.old)) (told (D.seen link.new))) }
+    ensures few_failed { IfErr result (IfUnbroken (DidAtMost abstractcs_address (3 * count + 11) (told (D.seen link.old)) (told (D.seen link.new)))) }
     ensures failed { IfErr result (Fails (LoadsFailed size address count into.new.items) (D.seen link.old) (D.seen link.new)) }
     ensures rises { Within (74 * count) (D.seen link.old) (D.seen link.new) }
     ensures keeps { Keeps access_why (D.seen link.old) (D.seen link.new) result }
 {
     start_block(link, element_load_of(size), size, address)?;
+    if count <= 3 {
+        return Ok(());
+    }
     let mut looks = 0;
     let mut trial = true;
+    let mut spent = STARTED;
     'runs: while looks <= LOOKS_MOST && into.len() + 3 < usize::from(count) {
         let left = count - 3 - into.len() as u16;
-        let run = next_run(left, looks, own_words(size), trial);
+        let room = load_room(size, count, left, spent);
+        if room < TRIAL.min(left) {
+            load_awaited(link, size, address, count, into)?;
+            return Ok(());
+        }
+        let own = own_words(size);
+        let run = next_run(left.min(room), looks, own, trial);
         let whole = load_run(link, size, address, count, run, into)?;
+        spent += spent_by(run.more * own, whole);
         trial = !whole;
         if !whole {
             looks += 1;
         }
+    }
+    if into.len() + 3 < usize::from(count) {
+        load_awaited(link, size, address, count, into)?;
     }
     Ok(())
 }

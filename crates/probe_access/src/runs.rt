@@ -4,12 +4,13 @@
 ghost use Rattle.std.specs.Prelude.{◌≡◌, ◌≢◌, ◌⊎◌, ◌≤◌, ◌<◌, ◌+◌, ◌*◌, ◌^◌, ◌++◌, ◌∷◌, [], length, take, None, IfErr, IfOk, IfSome};
 ghost use Rattle.rv_model.specs.Size.{count_of};
 ghost use Rattle.debug_model.specs.Rises.{Within};
-ghost use Rattle.debug_model.specs.Addresses.{abstractauto_address};
+ghost use Rattle.debug_model.specs.Addresses.{abstractauto_address, abstractcs_address};
 ghost use Rattle.debug_model.specs.Command.{all_addresses, most_elements};
 ghost use Rattle.debug_model.specs.Kept.{CanCall, Keeps};
 ghost use Rattle.debug_model.specs.Many.{operations_most};
 ghost use Rattle.debug_model.specs.declared.dmi_op.DmiOp.TheVariants.{Write};
 ghost use Rattle.probe_access.specs.AskedRuns.{Asked, AskedBy, AskedFailed, AskedOnce, AskingFailed, EndFell, RunFell, Unplaced, early_error, looks_most, looks_of, more_most, run_ops};
+ghost use Rattle.probe_access.specs.Spent.{DidAtMost, IfUnbroken, run_spends};
 ghost use Rattle.probe_access.specs.Blocks.{element_at};
 ghost use Rattle.probe_access.specs.CommandRuns.{error_shown};
 ghost use Rattle.probe_access.specs.ElementRuns.{StoresFailed, StoresOn};
@@ -23,7 +24,7 @@ use crate::elements::{next_command, start_block};
 use crate::fault::AccessFault;
 use crate::odd::OddStatus;
 use crate::program::{X8, X9, store_of};
-use crate::transfers::{EXCEPTION, read_register, write_register};
+use crate::transfers::{EXCEPTION, read_apart, write_register};
 use arrayvec::ArrayVec;
 use debug_model::{AbstractCommand, Abstractauto, Abstractcs, Data0, Dmi, DmiOp, OPERATIONS_MOST};
 use rv_model::Size;
@@ -35,7 +36,16 @@ const MORE_MOST: u16 = 125;
 pub const LOOKS_MOST: u16 = 6;
 
 /// How many elements come behind the first of a run that may come too early.
-const TRIAL: u16 = 4;
+pub const TRIAL: u16 = 4;
+
+/// How many operations besides polls the value, the address, the program and the first element take.
+const STARTED: u16 = 10;
+
+/// How many a run takes besides those of the elements behind its first.
+const AROUND_RUN: u16 = 3;
+
+/// How many it takes where an element came too early, with the new start.
+const AROUND_EARLY: u16 = 14;
 
 /// `abstractauto` with which an access to data0 starts the command.
 pub const BY_DATA0: u32 = 1;
@@ -183,6 +193,9 @@ fn run_at<D: Dmi>(
     requires ends { address + (done + 1 + run.more) * count_of size < 2 ^ 64 }
     ensures ran { IfOk result (λ found. AskedBy size address done run.more found (told (D.seen link.old)) (told (D.seen link.new))) }
     ensures fell { IfErr result (Fails (RunFell size address done run.more) (D.seen link.old) (D.seen link.new)) }
+    ensures few { IfOk result
+        (λ found. DidAtMost abstractcs_address (run_spends run.more found) (told (D.seen link.old)) (told (D.seen link.new))) }
+    ensures few_failed { IfErr result (IfUnbroken (DidAtMost abstractcs_address (run.more + 7) (told (D.seen link.old)) (told (D.seen link.new)))) }
     ensures whole { IfOk result (λ found. found ≡ None → Within (run.more * (run.looks + 1) + 8) (D.seen link.old) (D.seen link.new)) }
     ensures rises { Within (run.more * (run.looks + 1) + 24) (D.seen link.old) (D.seen link.new) }
     ensures keeps { Keeps access_why (D.seen link.old) (D.seen link.new) result }
@@ -191,7 +204,7 @@ fn run_at<D: Dmi>(
     match Abstractcs::from_word(last).cmderr {
         0 => Ok(None),
         EARLY | EXCEPTION => {
-            let x8 = read_register(link, X8)?;
+            let x8 = read_apart(link, X8)?;
             let found = end_run(size, address, done, run.more, last, x8)?;
             Ok(Some(found))
         }
@@ -218,8 +231,19 @@ pub fn next_run(most: u16, looks: u16, own: u16, trial: bool) -> Run
     }
 }
 
+/// How many elements may come behind the first of a run, with so many of a block stored for so many operations: where the run comes too early at once,
+/// and each of the rest then takes an operation, the block takes no more than 3 for each element and 11.
+fn store_room(count: u16, done: u16, spent: u16) -> u16
+    requires few { count ≤ most_elements }
+    requires within { done ≤ count }
+    ensures most { 1 ≤ result → spent + result + 3 ≤ 2 * count + done }
+{
+    (2 * count + done).saturating_sub(spent.saturating_add(AROUND_RUN))
+}
+
 /// Stores a value to the first element of a block, and to the others in runs but for the last ones, by x8 and x9 of the selected hart: how many are
-/// stored then. Where one was asked for too early the program is begun again, and the next run has one more look in front of each element.
+/// stored then. Where one was asked for too early the program is begun again, and the next run has one more look in front of each element; where one
+/// more that comes too early might take more operations than a block may, none is left to a run.
 pub fn store_front<D: Dmi>(
     link: &mut D,
     size: Size,
@@ -234,6 +258,8 @@ pub fn store_front<D: Dmi>(
     ensures stored { IfOk result (λ done. StoresOn size address value count (told (D.seen link.old)) done (told (D.seen link.new))) }
     ensures most { IfOk result (λ done. done ≤ count) }
     ensures failed { IfErr result (Fails (StoresFailed size address value count) (D.seen link.old) (D.seen link.new)) }
+    ensures few { IfOk result (λ done. DidAtMost abstractcs_address (2 * count + 10 + done) (told (D.seen link.old)) (told (D.seen link.new))) }
+    ensures few_failed { IfErr result (IfUnbroken (DidAtMost abstractcs_address (3 * count + 11) (told (D.seen link.old)) (told (D.seen link.new)))) }
     ensures rises { Within (57 * count + 256) (D.seen link.old) (D.seen link.new) }
     ensures keeps { Keeps access_why (D.seen link.old) (D.seen link.new) result }
 {
@@ -242,17 +268,25 @@ pub fn store_front<D: Dmi>(
     let mut done = 1;
     let mut looks = 0;
     let mut trial = true;
+    let mut spent = STARTED;
     'runs: while looks <= LOOKS_MOST && done + 2 < count {
-        let run = next_run(count - 2 - done, looks, 1, trial);
+        let left = count - 2 - done;
+        let room = store_room(count, done, spent);
+        if room < TRIAL.min(left) {
+            return Ok(done);
+        }
+        let run = next_run(left.min(room), looks, 1, trial);
         match run_at(link, size, address, done, run)? {
             None => {
                 done += 1 + run.more;
+                spent += run.more + AROUND_RUN;
                 trial = false;
             }
             Some(found) => {
                 let at = element(size, address, found, count);
                 start_block(link, store_of(size), size, at)?;
                 done = found + 1;
+                spent += run.more + AROUND_EARLY;
                 looks += 1;
                 trial = true;
             }

@@ -6,12 +6,14 @@ ghost use Rattle.debug_model.specs.Rises.{Within};
 ghost use Rattle.debug_model.specs.Kept.{CanCall, Keeps};
 ghost use Rattle.probe_run.specs.Told.{Fails, OnChip, told};
 ghost use Rattle.probe_access.specs.Faults.{access_why};
+ghost use Rattle.probe_access.specs.Spent.{DidAtMost, IfUnbroken};
+ghost use Rattle.debug_model.specs.Addresses.{abstractcs_address};
 ghost use Rattle.debug_model.specs.Kept.{StandsUnless};
 ghost use Rattle.probe_run.specs.Told.{Serving};
 
 use crate::fault::AccessFault;
 use crate::program::{X8, X9};
-use crate::transfers::{read_register, write_register};
+use crate::transfers::{read_apart, read_register, write_register};
 use debug_model::Dmi;
 use probe_run::Halted;
 
@@ -32,6 +34,22 @@ pub(crate) fn save_scratch<D: Dmi>(link: &mut D) -> Result<Scratch, AccessFault>
 {
     let x8 = read_register(link, X8)?;
     let x9 = read_register(link, X9)?;
+    Ok(Scratch { x8, x9 })
+}
+
+/// Reads x8 and x9 of the selected hart, each behind the end of its transfer: in six operations besides polls, whatever the chip's time.
+#[tactic(auto, using(debug_model::proofs::RiseLemmas::within_then, debug_model::proofs::RiseLemmas::within_more))]
+pub(crate) fn fetch_scratch<D: Dmi>(link: &mut D) -> Result<Scratch, AccessFault>
+    requires callable { CanCall (D.seen link.old) }
+    ensures saved { IfOk result (λ scratch. Saved scratch.x8 scratch.x9 (told (D.seen link.old)) (told (D.seen link.new))) }
+    ensures failed { IfErr result (Fails SaveFailed (D.seen link.old) (D.seen link.new)) }
+    ensures few { OnOk result (DidAtMost abstractcs_address 6 (told (D.seen link.old)) (told (D.seen link.new))) }
+    ensures few_failed { IfErr result (IfUnbroken (DidAtMost abstractcs_address 6 (told (D.seen link.old)) (told (D.seen link.new)))) }
+    ensures rises { Within 16 (D.seen link.old) (D.seen link.new) }
+    ensures keeps { Keeps access_why (D.seen link.old) (D.seen link.new) result }
+{
+    let x8 = read_apart(link, X8)?;
+    let x9 = read_apart(link, X9)?;
     Ok(Scratch { x8, x9 })
 }
 

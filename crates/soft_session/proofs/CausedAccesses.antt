@@ -10,11 +10,12 @@ use Rattle.probe_access.specs.BusRuns.{BusEndFailed, BusEnding, BusLoadFailed, B
 use Rattle.probe_access.specs.MemoryRuns.{AroundFailed, PerformFailed, PutBackFailed, Recovers, SaveFailed, StoreFailedInside, StoredInside}
 use Rattle.probe_access.specs.MemoryRuns.{program_set}
 use Rattle.probe_access.specs.RegisterAccess.{x8_number, x9_number}
+use Rattle.probe_access.specs.RegisterRuns.{SavingFailed}
 use Rattle.probe_access.specs.StepRuns.{of_run}
 use Rattle.probe_run.specs.declared.fault.RunFault.{RunFault}
 use Rattle.probe_run.specs.Acts.{Tells}
 use Rattle.probe_session.specs.Calls.{LookUnheard}
-use Rattle.probe_session.proofs.AccessCauses.{AccessCaused, broke_in, by_run, command_caused, read_caused, write_caused}
+use Rattle.probe_session.proofs.AccessCauses.{AccessCaused, apart_caused, broke_in, by_run, command_caused, read_caused, write_caused}
 use Rattle.probe_session.proofs.RunCauses.{look_caused}
 use Rattle.probe_session.specs.Causes.{LastedBusy}
 use Rattle.soft_laws.specs.SoftBreaks.{ebreak_word}
@@ -35,10 +36,15 @@ inside_caused : (e : AccessFault) (a v old_count new_count : ℕ) (old new : Tel
 inside_caused e a v old_count new_count old new (StoreFailedInside.writing f) = write_caused e x9_number v old_count new_count old new f
 inside_caused e a v old_count new_count old new (StoreFailedInside.performing mid wrote f) = perform_caused e _ a old_count new_count mid new f
 
+saving_caused : (e : AccessFault) (number old_count new_count : ℕ) (old new : Tells) → SavingFailed number old_count new_count old new e
+    → AccessCaused old_count new_count new.far e
+saving_caused e number old_count new_count old new (SavingFailed.reading f) = read_caused e number old_count new_count old new f
+saving_caused e number old_count new_count old new (SavingFailed.apart f) = apart_caused e number old_count new_count old new f
+
 save_caused : (e : AccessFault) (old_count new_count : ℕ) (old new : Tells) → SaveFailed old_count new_count old new e
     → AccessCaused old_count new_count new.far e
-save_caused e old_count new_count old new (SaveFailed.at_x8 f) = read_caused e x8_number old_count new_count old new f
-save_caused e old_count new_count old new (SaveFailed.at_x9 x8 mid read f) = read_caused e x9_number old_count new_count mid new f
+save_caused e old_count new_count old new (SaveFailed.at_x8 f) = saving_caused e x8_number old_count new_count old new f
+save_caused e old_count new_count old new (SaveFailed.at_x9 x8 mid read f) = saving_caused e x9_number old_count new_count mid new f
 
 back_caused : (e : AccessFault) (x8 x9 old_count new_count : ℕ) (old new : Tells) → PutBackFailed x8 x9 old_count new_count old new e
     → AccessCaused old_count new_count new.far e

@@ -6,6 +6,9 @@ use Rattle.probe_access.specs.ElementRuns.LoadsFailed.{in_start}
 use Rattle.probe_access.proofs.ElementCalls.{none_counted, none_on, start_as}
 use Rattle.probe_access.proofs.ReadHands.{runs_on, runs_stop}
 use Rattle.probe_access.proofs.RegisterCalls.{err_failed}
+use Rattle.probe_run.specs.Told.{told}
+use Rattle.probe_access.proofs.Spending.{spent_more, spent_then, start_failed, started_spent, unbroken_more, unbroken_then}
+use Rattle.probe_access.proofs.LoadBudget.{rest_fails, rest_left, rest_rises, run_cost, run_fails, run_left, runs_begin, runs_end}
 use Rattle.probe_access.proofs.load_runs.load_front.Goals as goal
 
 pub returns-in_err-start_block-clause-failed : goal.returns-in_err-start_block-clause-failed
@@ -24,6 +27,8 @@ runs-init g c = record {
   later = c.start_block.ensures.keeps.later;
   fixed = c.start_block.ensures.keeps.fixed;
   few = omega arith;
+  spent = runs_begin (is_wide c.args.size) c.args.count (length c.args.into.now.items) (none_counted _ c.requires.empty) (omega arith);
+  did = started_spent c.element_load_of.result c.args.size c.args.address _ _ c.in_ok-start_block.ensures.started;
   rises = within_more 17 ((17 + 18 * length c.args.into.now.items) + 0 * (8 * c.args.count)) _ _ c.start_block.ensures.rises (omega arith);
 }
 
@@ -42,11 +47,19 @@ runs-preserved-then-not-whole g c = record {
   later = omega (arith, c.runs.invariant.later, c.load_run.ensures.keeps.later);
   fixed = c.load_run.ensures.keeps.fixed ∙ c.runs.invariant.fixed;
   few = omega (arith, c.runs-test.true);
+  spent = run_left (is_wide c.args.size) c.in_ok-whole.whole c.args.count (length c.runs.into.items) (length c.load_run.new.into.items)
+      c.next_run-run.result.more c.load_room-room.result c.from-left.result c.own_words-own.result c.runs.spent c.spent_by.result c.own_words-own.ensures.words
+      c.spent_by.ensures c.in_ok-whole.ensures.more (omega arith) (omega arith) (omega (arith, c.next_run-run.ensures.within)) (omega arith)
+      (c.load_room-room.ensures.most (omega arith));
+  did = spent_then c.runs.spent c.spent_by.result (c.runs.spent + c.spent_by.result) _ (told (g.D.Dmi.seen c.runs.link)) _ (omega arith)
+      c.runs.invariant.did
+      (run_cost (is_wide c.args.size) c.in_ok-whole.whole c.next_run-run.result.more c.own_words-own.result c.spent_by.result _ _ c.own_words-own.ensures.words
+      c.spent_by.ensures c.in_ok-whole.ensures.few);
   rises = let cost : c.next_run-run.result.more * (c.next_run-run.result.looks + own_words (is_wide c.args.size)) ≤ 8 * c.next_run-run.result.more =
       run_most 8 c.next_run-run.result.more (c.next_run-run.result.looks + own_words (is_wide c.args.size)) (omega (
         arith,
-        c.own_words.ensures.words,
-        c.own_words.ensures.few,
+        c.own_words-own.ensures.words,
+        c.own_words-own.ensures.few,
         c.next_run-run.ensures.looks,
         c.runs-test.true,
       )) in
@@ -71,11 +84,19 @@ runs-preserved g c = record {
   later = omega (arith, c.runs.invariant.later, c.load_run.ensures.keeps.later);
   fixed = c.load_run.ensures.keeps.fixed ∙ c.runs.invariant.fixed;
   few = c.runs.invariant.few;
+  spent = run_left (is_wide c.args.size) c.in_ok-whole.whole c.args.count (length c.runs.into.items) (length c.load_run.new.into.items)
+      c.next_run-run.result.more c.load_room-room.result c.from-left.result c.own_words-own.result c.runs.spent c.spent_by.result c.own_words-own.ensures.words
+      c.spent_by.ensures c.in_ok-whole.ensures.more (omega arith) (omega arith) (omega (arith, c.next_run-run.ensures.within)) (omega arith)
+      (c.load_room-room.ensures.most (omega arith));
+  did = spent_then c.runs.spent c.spent_by.result (c.runs.spent + c.spent_by.result) _ (told (g.D.Dmi.seen c.runs.link)) _ (omega arith)
+      c.runs.invariant.did
+      (run_cost (is_wide c.args.size) c.in_ok-whole.whole c.next_run-run.result.more c.own_words-own.result c.spent_by.result _ _ c.own_words-own.ensures.words
+      c.spent_by.ensures c.in_ok-whole.ensures.few);
   rises = let cost : c.next_run-run.result.more * (c.next_run-run.result.looks + own_words (is_wide c.args.size)) ≤ 8 * c.next_run-run.result.more =
       run_most 8 c.next_run-run.result.more (c.next_run-run.result.looks + own_words (is_wide c.args.size)) (omega (
         arith,
-        c.own_words.ensures.words,
-        c.own_words.ensures.few,
+        c.own_words-own.ensures.words,
+        c.own_words-own.ensures.few,
         c.next_run-run.ensures.looks,
         c.runs-test.true,
       )) in
@@ -94,8 +115,8 @@ returns-in_err-whole-clause-rises g c =
     let cost : c.next_run-run.result.more * (c.next_run-run.result.looks + own_words (is_wide c.args.size)) ≤ 8 * c.next_run-run.result.more =
     run_most 8 c.next_run-run.result.more (c.next_run-run.result.looks + own_words (is_wide c.args.size)) (omega (
       arith,
-      c.own_words.ensures.words,
-      c.own_words.ensures.few,
+      c.own_words-own.ensures.words,
+      c.own_words-own.ensures.few,
       c.next_run-run.ensures.looks,
       c.runs-test.true,
     )) in
@@ -120,3 +141,9 @@ pub returns-after-runs-clause-rises : goal.returns-after-runs-clause-rises
 returns-after-runs-clause-rises g c =
     within_more ((17 + 18 * length c.runs.into.items) + c.runs.looks * (8 * c.args.count)) (74 * c.args.count) _ _ c.runs.invariant.rises (loads_end (length
     c.runs.into.items) c.runs.looks c.args.count c.runs.invariant.most c.runs.invariant.few)
+
+pub returns-in_err-start_block-clause-few_failed : goal.returns-in_err-start_block-clause-few_failed
+returns-in_err-start_block-clause-few_failed g c =
+    err_failed _ c.in_err-start_block.field-0.0 _ c.from_residual.ensures.1
+    (unbroken_more 8 (3 * c.args.count + 11) _ _ c.in_err-start_block.field-0.0 (omega arith)
+    (start_failed c.element_load_of.result c.args.size c.args.address _ _ _ _ c.in_err-start_block.field-0.0 c.in_err-start_block.ensures.failed))

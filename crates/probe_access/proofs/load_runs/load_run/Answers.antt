@@ -17,6 +17,7 @@ use Rattle.probe_access.proofs.ReadHands.{
   hand_words,
 }
 use Rattle.probe_access.proofs.RegisterCalls.{err_failed}
+use Rattle.probe_access.proofs.Spending.{finding_failed, found_spent, loads_failed, run_spent, spent_more, unbroken_more, whole_spent}
 use Rattle.probe_access.proofs.load_runs.load_run.Goals as goal
 
 pub returns-in_err-last-clause-failed : goal.returns-in_err-last-clause-failed
@@ -248,3 +249,65 @@ returns-in_ok-value-in-0-clause-whole g c =
 pub returns-in-Some-clause-whole : goal.returns-in-Some-clause-whole
 returns-in-Some-clause-whole g c =
     λ whole. absurd (false≢true whole)
+
+pub returns-in_ok-value-in-0-clause-few : goal.returns-in_ok-value-in-0-clause-few
+returns-in_ok-value-in-0-clause-few g c =
+    whole_spent (is_wide c.args.size) c.args.run.looks c.args.run.more c.in_ok-last.last c.in_ok-value-in-0.value (drop 2 c.run_loads.new.words.items) _ (told (g.D.Dmi.seen c.run_loads.new.link)) _
+    (ap (λ (s : Abstractcs). s.cmderr) (sym c.from_word.ensures) ∙ c.in-0.is) c.in_ok-last.ensures.asked c.in_ok-value-in-0.ensures.read
+
+pub returns-in-Some-clause-few : goal.returns-in-Some-clause-few
+returns-in-Some-clause-few g c =
+    found_spent (is_wide c.args.size) c.args.run.looks c.args.run.more c.in_ok-last.last c.in_ok-value-in-1.value c.in_ok-x8-in-1.x8 (drop 2 c.run_loads.new.words.items) _ (told (g.D.Dmi.seen c.run_loads.new.link))
+    (told (g.D.Dmi.seen c.read_double-in-1.new.link)) _ c.in_ok-last.ensures.asked c.in_ok-value-in-1.ensures.read c.in_ok-x8-in-1.ensures.read
+
+pub returns-in_err-last-clause-few_failed : goal.returns-in_err-last-clause-few_failed
+returns-in_err-last-clause-few_failed g c =
+    err_failed c.from_residual.result c.in_err-last.field-0.0 _ c.from_residual.ensures.1
+    (unbroken_more (c.args.run.more * own_words (is_wide c.args.size) + 2) (c.args.run.more * own_words (is_wide c.args.size) + 9) _ _ c.in_err-last.field-0.0 (omega arith)
+    (loads_failed (is_wide c.args.size) c.args.run.looks c.args.run.more _ _ _ _ c.in_err-last.field-0.0 c.in_err-last.ensures.failed))
+
+pub returns-in_err-value-in-0-clause-few_failed : goal.returns-in_err-value-in-0-clause-few_failed
+returns-in_err-value-in-0-clause-few_failed g c =
+    err_failed c.from_residual-in_err-value-in-0.result _ _ c.from_residual-in_err-value-in-0.ensures.1 tt
+
+pub returns-in_err-value-in-1-clause-few_failed : goal.returns-in_err-value-in-1-clause-few_failed
+returns-in_err-value-in-1-clause-few_failed g c =
+    err_failed c.from_residual-in_err-value-in-1.result _ _ c.from_residual-in_err-value-in-1.ensures.1 tt
+
+pub returns-in_err-value-in-3-clause-few_failed : goal.returns-in_err-value-in-3-clause-few_failed
+returns-in_err-value-in-3-clause-few_failed g c =
+    err_failed c.from_residual-in_err-value-in-3.result _ _ c.from_residual-in_err-value-in-3.ensures.1 tt
+
+pub returns-in_err-x8-in-1-clause-few_failed : goal.returns-in_err-x8-in-1-clause-few_failed
+returns-in_err-x8-in-1-clause-few_failed g c =
+    err_failed c.from_residual-in_err-x8-in-1.result c.in_err-x8-in-1.field-0.0 _ c.from_residual-in_err-x8-in-1.ensures.1
+    (finding_failed (is_wide c.args.size) c.args.run.looks c.args.run.more c.in_ok-last.last c.in_ok-value-in-1.value _ _ (drop 2 c.run_loads.new.words.items) _ (told (g.D.Dmi.seen c.run_loads.new.link))
+    (told (g.D.Dmi.seen c.read_double-in-1.new.link)) _ c.in_err-x8-in-1.field-0.0 c.in_ok-last.ensures.asked c.in_ok-value-in-1.ensures.read
+    c.in_err-x8-in-1.ensures.failed)
+
+pub returns-in_err-x8-in-3-clause-few_failed : goal.returns-in_err-x8-in-3-clause-few_failed
+returns-in_err-x8-in-3-clause-few_failed g c =
+    err_failed c.from_residual-in_err-x8-in-3.result c.in_err-x8-in-3.field-0.0 _ c.from_residual-in_err-x8-in-3.ensures.1
+    (finding_failed (is_wide c.args.size) c.args.run.looks c.args.run.more c.in_ok-last.last c.in_ok-value-in-3.value _ _ (drop 2 c.run_loads.new.words.items) _ (told (g.D.Dmi.seen c.run_loads.new.link))
+    (told (g.D.Dmi.seen c.read_double-in-3.new.link)) _ c.in_err-x8-in-3.field-0.0 c.in_ok-last.ensures.asked c.in_ok-value-in-3.ensures.read
+    c.in_err-x8-in-3.ensures.failed)
+
+pub returns-in_default-made_of-clause-few_failed : goal.returns-in_default-made_of-clause-few_failed
+returns-in_default-made_of-clause-few_failed g c =
+    found_spent (is_wide c.args.size) c.args.run.looks c.args.run.more c.in_ok-last.last c.in_ok-value-in-1.value c.in_ok-x8-in-1.x8 (drop 2 c.run_loads.new.words.items) _ (told (g.D.Dmi.seen c.run_loads.new.link))
+    (told (g.D.Dmi.seen c.read_double-in-1.new.link)) _ c.in_ok-last.ensures.asked c.in_ok-value-in-1.ensures.read c.in_ok-x8-in-1.ensures.read
+
+pub returns-in_default-made_of-2-clause-few_failed : goal.returns-in_default-made_of-2-clause-few_failed
+returns-in_default-made_of-2-clause-few_failed g c =
+    found_spent (is_wide c.args.size) c.args.run.looks c.args.run.more c.in_ok-last.last c.in_ok-value-in-3.value c.in_ok-x8-in-3.x8 (drop 2 c.run_loads.new.words.items) _ (told (g.D.Dmi.seen c.run_loads.new.link))
+    (told (g.D.Dmi.seen c.read_double-in-3.new.link)) _ c.in_ok-last.ensures.asked c.in_ok-value-in-3.ensures.read c.in_ok-x8-in-3.ensures.read
+
+pub returns-in-Some-made_of-clause-few_failed : goal.returns-in-Some-made_of-clause-few_failed
+returns-in-Some-made_of-clause-few_failed g c =
+    found_spent (is_wide c.args.size) c.args.run.looks c.args.run.more c.in_ok-last.last c.in_ok-value-in-3.value c.in_ok-x8-in-3.x8 (drop 2 c.run_loads.new.words.items) _ (told (g.D.Dmi.seen c.run_loads.new.link))
+    (told (g.D.Dmi.seen c.read_double-in-3.new.link)) _ c.in_ok-last.ensures.asked c.in_ok-value-in-3.ensures.read c.in_ok-x8-in-3.ensures.read
+
+pub returns-in_default-clause-few_failed : goal.returns-in_default-clause-few_failed
+returns-in_default-clause-few_failed g c =
+    spent_more (c.args.run.more * own_words (is_wide c.args.size) + 4) (c.args.run.more * own_words (is_wide c.args.size) + 9) _ _ (omega arith)
+    (run_spent (is_wide c.args.size) c.args.run.looks c.args.run.more c.in_ok-last.last (drop 2 c.run_loads.new.words.items) _ _ c.in_ok-last.ensures.asked)

@@ -6,6 +6,8 @@ use Rattle.probe_access.specs.ElementRuns.StoresOn.{first}
 use Rattle.probe_access.proofs.ElementCalls.{start_as, started_as}
 use Rattle.probe_access.proofs.StoreRunCalls.{again_failed, some_least, some_most, stores_again, stores_fell, stores_ran}
 use Rattle.probe_access.proofs.RegisterCalls.{err_failed}
+use Rattle.probe_run.specs.Told.{told}
+use Rattle.probe_access.proofs.Spending.{run_none_spent, run_some_spent, spent_more, spent_then, start_failed, started_spent, unbroken_more, unbroken_then, write_failed, written_spent}
 use Rattle.probe_access.proofs.runs.store_front.Goals as goal
 
 pub returns-in_err-start_block-clause-failed : goal.returns-in_err-start_block-clause-failed
@@ -25,6 +27,10 @@ runs-init g c = record {
   later = omega (arith, c.write_register.ensures.keeps.later, c.start_block.ensures.keeps.later);
   fixed = c.start_block.ensures.keeps.fixed ∙ c.write_register.ensures.keeps.fixed;
   few = omega arith;
+  spent = omega arith;
+  did = spent_then 3 7 10 _ (told (g.D.Dmi.seen c.write_register.new.link)) _ (omega arith)
+      (written_spent 0x1009 c.args.value _ _ c.in_ok-write_register.ensures.written)
+      (started_spent c.store_of.result c.args.size c.args.address _ _ c.in_ok-start_block.ensures.started);
   rises = within_more 25 ((25 + 8 * 1) + 0 * (7 * c.args.count + 33)) _ _ (within_then 8 17 25 _ (g.D.Dmi.seen c.write_register.new.link) _
       c.write_register.ensures.rises c.start_block.ensures.rises c.write_register.ensures.keeps.fixed (omega arith))
       (omega arith);
@@ -47,6 +53,9 @@ runs-preserved-in-None g c = record {
   later = omega (arith, c.runs.invariant.later, c.run_at.ensures.keeps.later);
   fixed = c.run_at.ensures.keeps.fixed ∙ c.runs.invariant.fixed;
   few = c.runs.invariant.few;
+  spent = omega (arith, c.runs.invariant.spent);
+  did = spent_then c.runs.spent (c.next_run-run.result.more + 3) (c.runs.spent + (c.next_run-run.result.more + 3)) _ (told (g.D.Dmi.seen c.runs.link)) _
+      (omega arith) c.runs.invariant.did (run_none_spent c.next_run-run.result.more c.in_ok-run_at.field-0 _ _ c.in-None.is c.in_ok-run_at.ensures.few);
   rises = let cost : c.next_run-run.result.more * (c.next_run-run.result.looks + 1) ≤ 7 * c.next_run-run.result.more =
       run_most 7 c.next_run-run.result.more (c.next_run-run.result.looks + 1) (omega (arith, c.next_run-run.ensures.looks, c.runs-test.true)) in
       within_then ((25 + 8 * c.runs.done) + c.runs.looks * (7 * c.args.count + 33)) (c.next_run-run.result.more * (c.next_run-run.result.looks + 1) + 8) ((25
@@ -82,6 +91,19 @@ runs-preserved g c = record {
   later = omega (arith, c.runs.invariant.later, c.run_at.ensures.keeps.later, c.start_block-in-Some.ensures.keeps.later);
   fixed = c.start_block-in-Some.ensures.keeps.fixed ∙ c.run_at.ensures.keeps.fixed ∙ c.runs.invariant.fixed;
   few = omega (arith, c.runs-test.true);
+  spent = omega (
+    arith,
+    c.next_run-run.ensures.within,
+    c.store_room-room.ensures.most,
+    some_least c.args.size c.args.address c.runs.done c.next_run-run.result.more c.in-Some.found c.in_ok-run_at.field-0 _ _ c.in-Some.is
+        c.in_ok-run_at.ensures.ran,
+  );
+  did = spent_then (c.runs.spent + (c.next_run-run.result.more + 7)) 7 (c.runs.spent + (c.next_run-run.result.more + 14)) _
+      (told (g.D.Dmi.seen c.run_at.new.link)) _ (omega arith)
+      (spent_then c.runs.spent (c.next_run-run.result.more + 7) (c.runs.spent + (c.next_run-run.result.more + 7)) _ (told (g.D.Dmi.seen c.runs.link)) _
+      (omega arith) c.runs.invariant.did
+      (run_some_spent c.next_run-run.result.more c.in-Some.found c.in_ok-run_at.field-0 _ _ c.in-Some.is c.in_ok-run_at.ensures.few))
+      (started_spent c.store_of-in-Some.result c.args.size c.element-at.result _ _ c.in_ok-start_block-in-Some.ensures.started);
   rises = let cost : c.next_run-run.result.more * (c.next_run-run.result.looks + 1) ≤ 7 * c.next_run-run.result.more =
       run_most 7 c.next_run-run.result.more (c.next_run-run.result.looks + 1) (omega (arith, c.next_run-run.ensures.looks, c.runs-test.true)) in
       let waste : c.next_run-run.result.more * (c.next_run-run.result.looks + 1) ≤ 7 * c.args.count = omega (arith, cost, c.next_run-run.ensures.within) in
@@ -156,3 +178,41 @@ pub returns-after-runs-clause-rises : goal.returns-after-runs-clause-rises
 returns-after-runs-clause-rises g c =
     within_more ((25 + 8 * c.runs.done) + c.runs.looks * (7 * c.args.count + 33)) (57 * c.args.count + 256) _ _ c.runs.invariant.rises (stores_end
     c.runs.done c.runs.looks c.args.count c.runs.invariant.most c.runs.invariant.few)
+
+pub returns-in_err-write_register-clause-few_failed : goal.returns-in_err-write_register-clause-few_failed
+returns-in_err-write_register-clause-few_failed g c =
+    err_failed _ c.in_err-write_register.field-0.0 _ c.from_residual.ensures.1
+    (unbroken_more 4 (3 * c.args.count + 11) _ _ c.in_err-write_register.field-0.0 (omega arith)
+    (write_failed 0x1009 c.args.value _ _ _ _ c.in_err-write_register.field-0.0 c.in_err-write_register.ensures.failed))
+
+pub returns-in_err-start_block-clause-few_failed : goal.returns-in_err-start_block-clause-few_failed
+returns-in_err-start_block-clause-few_failed g c =
+    err_failed _ c.in_err-start_block.field-0.0 _ c.from_residual-in_err-start_block.ensures.1
+    (unbroken_then 3 8 (3 * c.args.count + 11) _ (told (g.D.Dmi.seen c.write_register.new.link)) _ c.in_err-start_block.field-0.0 (omega arith)
+    (written_spent 0x1009 c.args.value _ _ c.in_ok-write_register.ensures.written)
+    (start_failed c.store_of.result c.args.size c.args.address _ _ _ _ c.in_err-start_block.field-0.0 c.in_err-start_block.ensures.failed))
+
+pub returns-in_err-run_at-clause-few_failed : goal.returns-in_err-run_at-clause-few_failed
+returns-in_err-run_at-clause-few_failed g c =
+    err_failed _ c.in_err-run_at.field-0.0 _ c.from_residual-in_err-run_at.ensures.1
+    (unbroken_then c.runs.spent (c.next_run-run.result.more + 7) (3 * c.args.count + 11) _ (told (g.D.Dmi.seen c.runs.link)) _ c.in_err-run_at.field-0.0
+    (omega (arith, c.next_run-run.ensures.within, c.store_room-room.ensures.most, c.if-done-count.true)) c.runs.invariant.did c.in_err-run_at.ensures.few_failed)
+
+pub returns-in_err-start_block-in-Some-clause-few_failed : goal.returns-in_err-start_block-in-Some-clause-few_failed
+returns-in_err-start_block-in-Some-clause-few_failed g c =
+    err_failed _ c.in_err-start_block-in-Some.field-0.0 _ c.from_residual-in_err-start_block-in-Some.ensures.1
+    (unbroken_then (c.runs.spent + (c.next_run-run.result.more + 7)) 8 (3 * c.args.count + 11) _ (told (g.D.Dmi.seen c.run_at.new.link)) _
+    c.in_err-start_block-in-Some.field-0.0 (omega (arith, c.next_run-run.ensures.within, c.store_room-room.ensures.most, c.if-done-count.true))
+    (spent_then c.runs.spent (c.next_run-run.result.more + 7) (c.runs.spent + (c.next_run-run.result.more + 7)) _ (told (g.D.Dmi.seen c.runs.link)) _
+    (omega arith) c.runs.invariant.did
+    (run_some_spent c.next_run-run.result.more c.in-Some.found c.in_ok-run_at.field-0 _ _ c.in-Some.is c.in_ok-run_at.ensures.few))
+    (start_failed c.store_of-in-Some.result c.args.size c.element-at.result _ _ _ _ c.in_err-start_block-in-Some.field-0.0
+    c.in_err-start_block-in-Some.ensures.failed))
+
+pub returns-else-done-count-clause-few : goal.returns-else-done-count-clause-few
+returns-else-done-count-clause-few g c =
+    spent_more c.runs.spent (2 * c.args.count + 10 + c.runs.done) _ _ c.runs.invariant.spent c.runs.invariant.did
+
+pub returns-after-runs-clause-few : goal.returns-after-runs-clause-few
+returns-after-runs-clause-few g c =
+    spent_more c.runs.spent (2 * c.args.count + 10 + c.runs.done) _ _ c.runs.invariant.spent c.runs.invariant.did
