@@ -38,7 +38,7 @@ use Rattle.probe_access.proofs.TransferLemmas.{RanAlone, polls_ran}
 record ReadTo (e : LoadRun) (given : List ℕ) (told : Option Far) : Type 0 where
   far : Far
   is : told ≡ Some far
-  at : ReadsAt e given (site_of far)
+  stands : ReadsAt e given (site_of far)
 
 read_to : (e : LoadRun) (given read : List ℕ) (last v : ℕ) (y : Hart) (base : Site) (old mid : Tells) → RunFits e → length (given ++ read) + 1 < e.count
     → LoadDone e given v y base → (st : StoodTold e.h e.bus y base e.x old.far) → IsLoad e st.kept → AwaitedRead (is_wide e.size) read last old mid
@@ -60,7 +60,7 @@ read_to e given read last v y base old mid f below d st p a fine =
     record {
       far = at.far;
       is = at.is;
-      at = subst (ReadsAt e (given ++ read)) (sym (polls.rest.2) ∙ sym (fine_left (error_shown last) ends.mid (site_of at.far) fine ends.cleared)) shown;
+      stands = subst (ReadsAt e (given ++ read)) (sym polls.rest.2 ∙ sym (fine_left (error_shown last) ends.mid (site_of at.far) fine ends.cleared)) shown;
     }
 
 -- ---- at the next one
@@ -93,7 +93,7 @@ words_cut e given old_count new_count mid told why f below r b =
       far = cut.far;
       is = cut.is;
       hung = ops_cut e given 1 (op ∷ ops) s.done s.op s.left (site_of at.far) s.mid (site_of cut.far) f (omega (arith, below)) (one_ops (is_wide e.size)) s.asked
-          (subst (ReadsAt e given) (sym at.acts_are) r.at) s.before s.cut;
+          (subst (ReadsAt e given) (sym at.acts_are) r.stands) s.before s.cut;
     }
 
 polls_after : (e : LoadRun) (given : List ℕ) (value : ℕ) (front : List Act) (words : List ℕ) (s mid : Site) → RunFits e → length given + 2 < e.count
@@ -120,7 +120,7 @@ begun_cut e given old_count new_count mid told why _ _ f below r (polls front fi
       is = cut.is;
       hung = reads_cut e (given ++ value ∷ []) (site_of cut.far) f (omega (arith, n, below))
           (reads_ran e (given ++ value ∷ []) more.deeds cut.mid (site_of cut.far) f (omega (arith, n, below)) more.is
-          (polls_after e given value front (first ∷ words) (site_of r.far) cut.mid f below one cut.acts_are r.at));
+          (polls_after e given value front (first ∷ words) (site_of r.far) cut.mid f below one cut.acts_are r.stands));
     }
 begun_cut e given old_count new_count mid told why _ _ f below r (clears front words last (ElementFront.asked value _ one) vain not_busy error) b =
     let n : length (given ++ value ∷ []) ≡ length given + 1 = all_but_last given value in
@@ -133,7 +133,7 @@ begun_cut e given old_count new_count mid told why _ _ f below r (clears front w
       is = cut.is;
       hung = clears_cut e last (given ++ value ∷ []) cut.mid (site_of cut.far) f (omega (arith, n, below)) error
           (reads_polled e words last (given ++ value ∷ []) split.mid cut.mid f (omega (arith, n, below))
-          (one_done e given value front (site_of r.far) split.mid f below one split.first r.at) split.rest not_busy)
+          (one_done e given value front (site_of r.far) split.mid f below one split.first r.stands) split.rest not_busy)
           cut.cut;
     }
 
@@ -146,7 +146,7 @@ busy_cut e given mid new _ words f below r (ElementFront.asked value front one) 
       far = at.far;
       is = at.is;
       hung = reads_cut e (given ++ value ∷ []) (site_of at.far) f (omega (arith, n, below))
-          (polls_after e given value front words (site_of r.far) (site_of at.far) f below one at.acts_are r.at);
+          (polls_after e given value front words (site_of r.far) (site_of at.far) f below one at.acts_are r.stands);
     }
 
 element_cut : (e : LoadRun) (given : List ℕ) (old_count new_count : ℕ) (mid new : Tells) (why : AccessFault) → RunFits e → length given + 2 < e.count

@@ -42,23 +42,17 @@ run_fails wide count more room left spent some few one most =
     let w : more * own_words wide ≤ (room + left - 1) * own_words wide = no_more wide more (room + left - 1) (omega (arith, some, few, one)) in
     omega (arith, w, most)
 
--- with the rest awaited
-pub rest_left : (wide : Bool) (count before after spent : ℕ) → before + 3 < count → after + 2 ≡ count → Budget wide count before spent
-    → spent + ((count - before - 3) * own_words wide + 5) ≤ 3 * after + 11
-rest_left true count before after spent some all most = omega (arith, some, all, most)
-rest_left false count before after spent some all most = omega (arith, some, all, most)
-
-pub rest_fails : (wide : Bool) (count before spent : ℕ) → before + 3 < count → Budget wide count before spent
-    → spent + ((count - before - 3) * own_words wide + 9) ≤ 3 * count + 11
-rest_fails true count before spent some most = omega (arith, some, most)
-rest_fails false count before spent some most = omega (arith, some, most)
+-- with the rest to be awaited
+pub rest_left : (wide : Bool) (count given spent : ℕ) → given + 3 < count → Budget wide count given spent
+    → spent + (count - given - 3) * own_words wide ≤ 3 * count
+rest_left true count given spent some most = omega (arith, some, most)
+rest_left false count given spent some most = omega (arith, some, most)
 
 -- with none left to runs
-pub runs_end : (wide : Bool) (count given spent : ℕ) → given < count → count ≤ given + 3 → Budget wide count given spent → spent ≤ 3 * given + 11
-runs_end true count given spent within last most = omega (arith, within, last, most)
-runs_end false count given spent within last most = omega (arith, within, last, most)
+pub runs_end : (wide : Bool) (count given spent : ℕ) → given < count → Budget wide count given spent → count ≤ given + 3 → spent ≤ 3 * given + 11
+runs_end true count given spent within most last = omega (arith, within, last, most)
+runs_end false count given spent within most last = omega (arith, within, last, most)
 
 -- the rises
-pub rest_rises : (given looks count : ℕ) → given + 3 < count → looks ≤ 7
-    → ((17 + 18 * given) + looks * (8 * count)) + (7 * (count - given) + 18) ≤ 74 * count
-rest_rises given looks count few most = let a : looks * (8 * count) ≤ 7 * (8 * count) = mul-le-mul_right (8 * count) most in omega (arith, few, a)
+pub runs_rise : (given looks count : ℕ) → looks ≤ 7 → (17 + 18 * given) + looks * (8 * count) ≤ 17 + 18 * given + 56 * count
+runs_rise given looks count most = let a : looks * (8 * count) ≤ 7 * (8 * count) = mul-le-mul_right (8 * count) most in omega (arith, a)

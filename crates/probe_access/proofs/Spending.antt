@@ -89,7 +89,8 @@ few_fine error none = subst (λ n. Few 0 (clearing n)) (sym none) few_none
 -- polls, and that
 few_end : (n : ℕ) (words : List ℕ) (last : ℕ) → Few n (clearing (error_shown last)) → Few n (map poll_act words ++ poll_act last ∷ clearing (error_shown last))
 few_end n words last f =
-    few_append 0 n (map poll_act words) (poll_act last ∷ clearing (error_shown last)) (few_polls words) (few_poll n last (clearing (error_shown last)) f)
+    few_more (0 + n) n (map poll_act words ++ poll_act last ∷ clearing (error_shown last)) (omega arith)
+    (few_append 0 n (map poll_act words) (poll_act last ∷ clearing (error_shown last)) (few_polls words) (few_poll n last (clearing (error_shown last)) f))
 
 -- ---- calls
 

@@ -18,6 +18,7 @@ ghost use Rattle.probe_access.specs.Spent.{DidAtMost, IfUnbroken};
 ghost use Rattle.probe_run.specs.Told.{Fails, told};
 
 use crate::blocks::{ELEMENTS_MOST, element};
+use crate::bus_blocks::append;
 use crate::commands::end_command;
 use crate::doubles::read_double;
 use crate::fault::AccessFault;
@@ -129,9 +130,7 @@ fn hand_first(values: &[u64], taken: u16, value: u64, into: &mut ArrayVec<u64, E
     requires room { length into.old.items + taken < most_elements }
     ensures handed { into.new.items ≡ into.old.items ++ (take taken values.now ++ value ∷ []) }
 {
-    'elements: for number in 0..usize::from(taken) {
-        into.push(values[number]);
-    }
+    append(&values[..usize::from(taken)], into);
     into.push(value);
 }
 

@@ -276,9 +276,60 @@ fn spent_by(words: u16, whole: bool) -> u16
     }
 }
 
-/// Loads the first element of a block, and the others in runs but for the last ones, by x8 and x9 of the selected hart, and hands out all but the one
-/// that was loaded last, which x9 holds. Where a word was read too early the next run has one more look in front of each element; where one more that comes
-/// too early might take more operations than a block may, each of the rest is awaited.
+/// Loads the first element of a block, and others in runs, by x8 and x9 of the selected hart, and hands out all but the one that was loaded last, which x9
+/// holds: how many operations that took besides polls. Where a word was read too early the next run has one more look in front of each element; where one
+/// more that comes too early might take more operations than a block may, none is left to a run.
+fn load_in_runs<D: Dmi>(
+    link: &mut D,
+    size: Size,
+    address: u64,
+    count: u16,
+    into: &mut ArrayVec<u64, ELEMENTS_MOST>,
+) -> Result<u16, AccessFault>
+    requires callable { CanCall (D.seen link.old) }
+    requires some { 1 ≤ count }
+    requires room { count ≤ most_elements }
+    requires ends { address + count * count_of size ≤ all_addresses }
+    requires empty { into.old.items ≡ [] }
+    ensures on { OnOk result (LoadsOn size address count (told (D.seen link.old)) into.new.items (told (D.seen link.new))) }
+    ensures most { OnOk result (length into.new.items < count) }
+    ensures few { IfOk result (λ spent. DidAtMost abstractcs_address spent (told (D.seen link.old)) (told (D.seen link.new))) }
+    ensures rest { IfOk result
+        (λ spent. length into.new.items + 3 < count → spent + (count - length into.new.items - 3) * own_words (is_wide size) ≤ 3 * count) }
+    ensures last { IfOk result (λ spent. count ≤ length into.new.items + 3 → spent ≤ 3 * length into.new.items + 11) }
+    ensures few_failed { IfErr result (IfUnbroken (DidAtMost abstractcs_address (3 * count + 11) (told (D.seen link.old)) (told (D.seen link.new)))) }
+    ensures failed { IfErr result (Fails (LoadsFailed size address count into.new.items) (D.seen link.old) (D.seen link.new)) }
+    ensures done { OnOk result (Within (17 + 18 * length into.new.items + 56 * count) (D.seen link.old) (D.seen link.new)) }
+    ensures rises { Within (74 * count) (D.seen link.old) (D.seen link.new) }
+    ensures keeps { Keeps access_why (D.seen link.old) (D.seen link.new) result }
+{
+    start_block(link, element_load_of(size), size, address)?;
+    if count <= 3 {
+        return Ok(STARTED);
+    }
+    let mut looks = 0;
+    let mut trial = true;
+    let mut spent = STARTED;
+    'runs: while looks <= LOOKS_MOST && into.len() + 3 < usize::from(count) {
+        let left = count - 3 - into.len() as u16;
+        let room = load_room(size, count, left, spent);
+        if room < TRIAL.min(left) {
+            return Ok(spent);
+        }
+        let own = own_words(size);
+        let run = next_run(left.min(room), looks, own, trial);
+        let whole = load_run(link, size, address, count, run, into)?;
+        spent += spent_by(run.more * own, whole);
+        trial = !whole;
+        if !whole {
+            looks += 1;
+        }
+    }
+    Ok(spent)
+}
+
+/// Loads the first element of a block, and the others but for the last ones, by x8 and x9 of the selected hart, and hands out all but the one that was
+/// loaded last, which x9 holds: in runs, and where that might take too many operations each awaited.
 pub fn load_front<D: Dmi>(
     link: &mut D,
     size: Size,
@@ -299,29 +350,7 @@ pub fn load_front<D: Dmi>(
     ensures rises { Within (74 * count) (D.seen link.old) (D.seen link.new) }
     ensures keeps { Keeps access_why (D.seen link.old) (D.seen link.new) result }
 {
-    start_block(link, element_load_of(size), size, address)?;
-    if count <= 3 {
-        return Ok(());
-    }
-    let mut looks = 0;
-    let mut trial = true;
-    let mut spent = STARTED;
-    'runs: while looks <= LOOKS_MOST && into.len() + 3 < usize::from(count) {
-        let left = count - 3 - into.len() as u16;
-        let room = load_room(size, count, left, spent);
-        if room < TRIAL.min(left) {
-            load_awaited(link, size, address, count, into)?;
-            return Ok(());
-        }
-        let own = own_words(size);
-        let run = next_run(left.min(room), looks, own, trial);
-        let whole = load_run(link, size, address, count, run, into)?;
-        spent += spent_by(run.more * own, whole);
-        trial = !whole;
-        if !whole {
-            looks += 1;
-        }
-    }
+    let _spent = load_in_runs(link, size, address, count, into)?;
     if into.len() + 3 < usize::from(count) {
         load_awaited(link, size, address, count, into)?;
     }

@@ -7,7 +7,7 @@ use Rattle.probe_access.specs.ReadRuns.{is_wide}
 use Rattle.probe_access.proofs.LoadBudget.{Budget}
 use Rattle.probe_access.specs.Spent.{DidAtMost}
 use Rattle.probe_access.specs.ElementRuns.{LoadsOn}
-use Rattle.probe_access.proofs.load_runs.load_front.Given as goal
+use Rattle.probe_access.proofs.load_runs.load_in_runs.Given as goal
 
 abbrev pub decreases-runs : goal.decreases-runs
 decreases-runs g l = l.count - length l.into.items
