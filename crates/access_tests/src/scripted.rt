@@ -23,6 +23,9 @@ pub(crate) const EXCEPTION: u32 = 0x0400_0302;
 /// `cmderr` 2.
 pub(crate) const UNSUPPORTED: u32 = 0x0400_0202;
 
+/// A command is under way, and no error is set.
+pub(crate) const BUSY: u32 = 0x0400_1002;
+
 /// `cmderr` 1, while a command is under way and behind its end.
 const EARLY_BUSY: u32 = 0x0400_1102;
 
@@ -195,20 +198,22 @@ pub(crate) fn load_bytes<D: Dmi>(link: &mut D, count: u16) -> Result<Loaded, Fau
     })
 }
 
-/// Opens the chip and loads five elements.
-pub(crate) fn load_five<D: Dmi>(link: &mut D, size: Size) -> Result<[u64; 5], Fault>
+/// Opens the chip and loads eight elements.
+pub(crate) fn load_eight<D: Dmi>(link: &mut D, size: Size) -> Result<[u64; 8], Fault>
     requires callable { CanCall (D.seen link.old) }
     requires loaded { IsAsLoaded (D.seen link.old).far }
     requires aligned { is_aligned 0x8000_0000 size ≡ true }
-    requires ends { 0x8000_0000 + 5 * count_of size ≤ all_addresses }
+    requires ends { 0x8000_0000 + 8 * count_of size ≤ all_addresses }
 {
     let target = connect(link)?;
     let Seen::Halted(halted) = target.look(link, 0)? else {
         return Err(Fault::SeenOtherwise);
     };
     let mut into: ArrayVec<u64, 512> = ArrayVec::new();
-    load_block(link, &halted, size, 0x8000_0000, 5, &mut into)?;
-    Ok([into[0], into[1], into[2], into[3], into[4]])
+    load_block(link, &halted, size, 0x8000_0000, 8, &mut into)?;
+    Ok([
+        into[0], into[1], into[2], into[3], into[4], into[5], into[6], into[7],
+    ])
 }
 
 /// Opens the chip and loads two words.
@@ -234,36 +239,36 @@ fn loads_blocks(rt: HostRuntime) {
     let cases: [(&[u32], Result<(), AccessFault>, usize, Option<u64>); 5] = [
         (
             &[
-                0, 8, IDLE, 0, 9, IDLE, IDLE, IDLE, IDLE, 0x1000, 0, 0, 0x0234, IDLE, IDLE, IDLE,
+                IDLE, 8, 0, IDLE, 9, 0, IDLE, IDLE, IDLE, 0x1000, 0, IDLE, 0x0234, 0, IDLE, IDLE,
             ],
             Ok(()),
             2,
             Some(0x0234),
         ),
         (
-            &[0, 8, IDLE, 0, 9, IDLE, IDLE, EXCEPTION, IDLE, IDLE],
+            &[IDLE, 8, 0, IDLE, 9, 0, IDLE, EXCEPTION, IDLE, IDLE],
             Err(AccessFault::Memory(0x8000_0000)),
             0,
             None,
         ),
         (
             &[
-                0, 8, IDLE, 0, 9, IDLE, IDLE, IDLE, EXCEPTION, 0x1000, 0, IDLE, IDLE,
+                IDLE, 8, 0, IDLE, 9, 0, IDLE, IDLE, EXCEPTION, 0x1000, 0, IDLE, IDLE,
             ],
             Err(AccessFault::Memory(0x8000_0004)),
             1,
             Some(0x1000),
         ),
         (
-            &[0, 8, IDLE, 0, 9, IDLE, IDLE, IDLE, IDLE, 0x1000],
+            &[IDLE, 8, 0, IDLE, 9, 0, IDLE, IDLE, IDLE, 0x1000],
             Err(ENDED),
             0,
             None,
         ),
         (
             &[
-                5, 5, EARLY, IDLE, 8, 0, 0, 9, IDLE, IDLE, IDLE, IDLE, 0x1000, 0, 5, 5, EARLY_BUSY,
-                EARLY, IDLE, 0x0234, 0, IDLE, IDLE,
+                BUSY, BUSY, IDLE, 8, 0, BUSY, IDLE, 9, 0, IDLE, IDLE, IDLE, 0x1000, 0, BUSY, IDLE,
+                0x0234, 0, IDLE, IDLE,
             ],
             Ok(()),
             2,
@@ -296,17 +301,17 @@ pub(crate) fn store_bytes<D: Dmi>(link: &mut D, count: u16) -> Result<(), Fault>
 fn stores_blocks(rt: HostRuntime) {
     let cases: [(&[u32], Result<(), Fault>); 3] = [
         (
-            &[0, 8, IDLE, 0, 9, IDLE, IDLE, IDLE, IDLE, IDLE, IDLE, IDLE],
+            &[IDLE, 8, 0, IDLE, 9, 0, IDLE, IDLE, IDLE, IDLE, IDLE, IDLE],
             Ok(()),
         ),
         (
             &[
-                0, 8, IDLE, 0, 9, IDLE, IDLE, IDLE, IDLE, EXCEPTION, IDLE, IDLE,
+                IDLE, 8, 0, IDLE, 9, 0, IDLE, IDLE, IDLE, EXCEPTION, IDLE, IDLE,
             ],
             Err(Fault::Access(AccessFault::Memory(0x8000_0001))),
         ),
         (
-            &[0, 8, IDLE, 0, 9, IDLE, IDLE, IDLE, 0x0400_0402],
+            &[IDLE, 8, 0, IDLE, 9, 0, IDLE, IDLE, 0x0400_0402],
             Err(Fault::Access(AccessFault::Odd(OddStatus::Abstractcs(0x0400_0402)))),
         ),
     ];

@@ -3,7 +3,7 @@
 -- word. Where a word was read too early, or memory refused an element, x8 says how many accesses were made, and so which words were read in front of the
 -- error.
 -- RISC-V Debug Specification 1.0, "Abstract Command Autoexec" and "Abstract Control and Status" (cmderr): with an error set no command starts. That
--- the first comes by a command, that data0 starts the others, and that looks may stand between them, is this project's own choice.
+-- the first comes by a command, that data0 starts the others, and that looks may stand between them, or each is awaited, is this project's own choice.
 use Rattle.std.specs.Prelude.{◌≡◌, ◌≢◌, ◌⊎◌, ◌<◌, ◌≤◌, ◌+◌, ◌++◌, ◌∷◌, ℕ, zero, suc, List, [], length, take, drop, slice_index_or, Bool, true, false}
 use Rattle.rv_model.specs.declared.size.Size.{Size}
 use Rattle.rv_model.specs.declared.size.Size.TheVariants.{B1, B2, B4, B8}
