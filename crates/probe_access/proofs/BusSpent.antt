@@ -52,11 +52,11 @@ use Rattle.probe_run.proofs.ActLemmas.{did_then}
 
 -- ---- lists of acts
 
-pub spends_all : (polled : ℕ) (acts : List Act) → Spends polled (length acts) acts
+spends_all : (polled : ℕ) (acts : List Act) → Spends polled (length acts) acts
 spends_all polled [] = Spends.nothing
 spends_all polled (act ∷ acts) = Spends.further (length acts) act acts (spends_all polled acts)
 
-pub spends_append : (polled m n : ℕ) (xs ys : List Act) → Spends polled m xs → Spends polled n ys → Spends polled (m + n) (xs ++ ys)
+spends_append : (polled m n : ℕ) (xs ys : List Act) → Spends polled m xs → Spends polled n ys → Spends polled (m + n) (xs ++ ys)
 spends_append polled _ n _ ys Spends.nothing q = subst (λ k. Spends polled k ys) (let e : n ≡ 0 + n = omega arith in e) q
 spends_append polled m n _ ys (Spends.poll _ value xs p) q = Spends.poll (m + n) value (xs ++ ys) (spends_append polled m n xs ys p q)
 spends_append polled _ n _ ys (Spends.further m act xs p) q =

@@ -33,11 +33,22 @@ use Rattle.probe_access.specs.RegisterAccess.{next_word, transfer_word, x8_numbe
 use Rattle.probe_access.specs.RegisterRuns.{DoubleRead, RanOddly, RanTo, ReadApart, ReadApartFailed, RegisterWritten, WriteFailed, double_written}
 use Rattle.probe_access.specs.Spent.{DidAtMost, IfUnbroken, Spends, run_spends}
 use Rattle.probe_access.proofs.AwaitedCalls.{asked_of, awaited_are}
-use Rattle.probe_access.proofs.BusSpent.{spends_all, spends_append}
 use Rattle.probe_access.proofs.ReadCalls.{values_long}
 use Rattle.probe_run.proofs.ActLemmas.{did_then}
 
 -- ---- lists of acts
+
+spends_all : (acts : List Act) → Spends abstractcs_address (length acts) acts
+spends_all [] = Spends.nothing
+spends_all (act ∷ acts) = Spends.further (length acts) act acts (spends_all acts)
+
+spends_append : (m n : ℕ) (xs ys : List Act) → Spends abstractcs_address m xs → Spends abstractcs_address n ys
+    → Spends abstractcs_address (m + n) (xs ++ ys)
+spends_append _ n _ ys Spends.nothing q = subst (λ k. Spends abstractcs_address k ys) (let e : n ≡ 0 + n = omega arith in e) q
+spends_append m n _ ys (Spends.poll _ value xs p) q = Spends.poll (m + n) value (xs ++ ys) (spends_append m n xs ys p q)
+spends_append _ n _ ys (Spends.further m act xs p) q =
+    subst (λ k. Spends abstractcs_address k (act ∷ (xs ++ ys))) (let e : suc (m + n) ≡ suc m + n = omega arith in e)
+    (Spends.further (m + n) act (xs ++ ys) (spends_append m n xs ys p q))
 
 -- they are so many at most
 pub record Few (most : ℕ) (acts : List Act) : Type 0 where
@@ -46,7 +57,7 @@ pub record Few (most : ℕ) (acts : List Act) : Type 0 where
   pub within : count ≤ most
 
 few_all : (acts : List Act) → Few (length acts) acts
-few_all acts = record { count = length acts; spends = spends_all abstractcs_address acts; within = omega arith }
+few_all acts = record { count = length acts; spends = spends_all acts; within = omega arith }
 
 few_more : (m n : ℕ) (acts : List Act) → m ≤ n → Few m acts → Few n acts
 few_more m n acts le f = record { count = f.count; spends = f.spends; within = let w : f.count ≤ m = f.within in omega (arith, w, le) }
@@ -54,7 +65,7 @@ few_more m n acts le f = record { count = f.count; spends = f.spends; within = l
 few_append : (m n : ℕ) (xs ys : List Act) → Few m xs → Few n ys → Few (m + n) (xs ++ ys)
 few_append m n xs ys p q = record {
   count = p.count + q.count;
-  spends = spends_append abstractcs_address p.count q.count xs ys p.spends q.spends;
+  spends = spends_append p.count q.count xs ys p.spends q.spends;
   within = let a : p.count ≤ m = p.within in let b : q.count ≤ n = q.within in omega (arith, a, b);
 }
 
@@ -108,7 +119,7 @@ spent_then m n most a b c few p q = record {
   acts = p.acts ++ q.acts;
   did = did_then p.acts a b p.did q.acts c q.did;
   count = p.count + q.count;
-  spends = spends_append abstractcs_address p.count q.count p.acts q.acts p.spends q.spends;
+  spends = spends_append p.count q.count p.acts q.acts p.spends q.spends;
   within = let x : p.count ≤ m = p.within in let y : q.count ≤ n = q.within in omega (arith, x, y, few);
 }
 
@@ -512,3 +523,9 @@ each_finding_failed wide more last value old_count new_count read a m n b e few 
     unbroken_then (more * own_words wide + 6) 2 (more * own_words wide + 9) a n b e (omega arith)
     (spent_then (more * own_words wide + 4) 2 (more * own_words wide + 6) a m n (omega arith) (each_spent wide more last read a m few r)
     (double_spent value m n d)) (apart_failed x8_number old_count new_count n b e f)
+
+pub awaiting_failed_more : (wide : Bool) (most more old_count new_count : ℕ) (a b : Tells) (e : AccessFault) → most ≡ more
+    → AwaitingFailed wide most old_count new_count a b e → IfUnbroken (Within (more * own_words wide + 9) a b) e
+awaiting_failed_more wide most more old_count new_count a b e same f =
+    unbroken_more (more * own_words wide + 2) (more * own_words wide + 9) a b e (omega arith)
+    (awaiting_failed wide more old_count new_count a b e (subst (λ n. AwaitingFailed wide n old_count new_count a b e) same f))

@@ -56,7 +56,7 @@ fn first_run(size: Size, count: u16) -> u16
 }
 
 /// Puts values behind others, where there is room.
-pub fn append(values: &[u64], into: &mut ArrayVec<u64, ELEMENTS_MOST>)
+fn append(values: &[u64], into: &mut ArrayVec<u64, ELEMENTS_MOST>)
     ensures { length into.old.items + length values.now ≤ most_elements → into.new.items ≡ into.old.items ++ values.now }
 {
     let _room = into.try_extend_from_slice(values);

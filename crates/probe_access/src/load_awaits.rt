@@ -18,7 +18,6 @@ ghost use Rattle.probe_access.specs.Spent.{DidAtMost, IfUnbroken};
 ghost use Rattle.probe_run.specs.Told.{Fails, told};
 
 use crate::blocks::{ELEMENTS_MOST, element};
-use crate::bus_blocks::append;
 use crate::commands::end_command;
 use crate::doubles::read_double;
 use crate::fault::AccessFault;
@@ -130,7 +129,7 @@ fn hand_first(values: &[u64], taken: u16, value: u64, into: &mut ArrayVec<u64, E
     requires room { length into.old.items + taken < most_elements }
     ensures handed { into.new.items ≡ into.old.items ++ (take taken values.now ++ value ∷ []) }
 {
-    append(&values[..usize::from(taken)], into);
+    let _room = into.try_extend_from_slice(&values[..usize::from(taken)]);
     into.push(value);
 }
 

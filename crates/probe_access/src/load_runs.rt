@@ -253,15 +253,21 @@ fn load_run<D: Dmi>(
 }
 
 /// How many elements may come behind the first of a run, with `left` more than three of a block not handed out, for so many operations: where the run
-/// comes too early at once, and each of the rest is then awaited, the block takes no more than 3 for each element and 11.
-fn load_room(size: Size, count: u16, left: u16, spent: u16) -> u16
+/// comes too early at once, and each of the rest is then awaited, the block takes no more than 3 for each element and 11. None where that is too few for a
+/// run.
+fn load_most(size: Size, count: u16, left: u16, spent: u16) -> u16
     requires few { count ≤ most_elements }
     requires some { (1 ≤ left) × (left ≤ count) }
+    ensures within { result ≤ left }
     ensures most { 1 ≤ result → spent + 9 + (result + left - 1) * own_words (is_wide size) ≤ 3 * count }
 {
     let own = own_words(size);
     let others = AROUND_EARLY + (left - 1) * own;
-    (3 * count).saturating_sub(spent.saturating_add(others)) / own
+    let room = (3 * count).saturating_sub(spent.saturating_add(others)) / own;
+    if room < TRIAL.min(left) {
+        return 0;
+    }
+    left.min(room)
 }
 
 /// How many operations besides polls a run took whose elements behind its first have so many words, by whether it was whole.
@@ -312,12 +318,12 @@ fn load_in_runs<D: Dmi>(
     let mut spent = STARTED;
     'runs: while looks <= LOOKS_MOST && into.len() + 3 < usize::from(count) {
         let left = count - 3 - into.len() as u16;
-        let room = load_room(size, count, left, spent);
-        if room < TRIAL.min(left) {
+        let most = load_most(size, count, left, spent);
+        if most == 0 {
             return Ok(spent);
         }
         let own = own_words(size);
-        let run = next_run(left.min(room), looks, own, trial);
+        let run = next_run(most, looks, own, trial);
         let whole = load_run(link, size, address, count, run, into)?;
         spent += spent_by(run.more * own, whole);
         trial = !whole;

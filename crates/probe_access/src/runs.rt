@@ -1,7 +1,7 @@
 //! Runs of a block's elements by autoexec, with no poll between: a command makes the access of the first, and each write of data0 starts it again
 //! (RISC-V Debug Specification 1.0, "Abstract Command Autoexec").
 
-ghost use Rattle.std.specs.Prelude.{◌≡◌, ◌≢◌, ◌⊎◌, ◌≤◌, ◌<◌, ◌+◌, ◌*◌, ◌^◌, ◌++◌, ◌∷◌, [], length, take, None, IfErr, IfOk, IfSome};
+ghost use Rattle.std.specs.Prelude.{◌≡◌, ◌≢◌, ◌⊎◌, ◌≤◌, ◌<◌, ◌+◌, ◌-◌, ◌*◌, ◌^◌, ◌++◌, ◌∷◌, [], length, take, None, IfErr, IfOk, IfSome};
 ghost use Rattle.rv_model.specs.Size.{count_of};
 ghost use Rattle.debug_model.specs.Rises.{Within};
 ghost use Rattle.debug_model.specs.Addresses.{abstractauto_address, abstractcs_address};
@@ -232,13 +232,19 @@ pub fn next_run(most: u16, looks: u16, own: u16, trial: bool) -> Run
 }
 
 /// How many elements may come behind the first of a run, with so many of a block stored for so many operations: where the run comes too early at once,
-/// and each of the rest then takes an operation, the block takes no more than 3 for each element and 11.
-fn store_room(count: u16, done: u16, spent: u16) -> u16
+/// and each of the rest then takes an operation, the block takes no more than 3 for each element and 11. None where that is too few for a run.
+fn store_most(count: u16, done: u16, spent: u16) -> u16
     requires few { count ≤ most_elements }
-    requires within { done ≤ count }
+    requires some { done + 2 < count }
+    ensures within { result ≤ count - 2 - done }
     ensures most { 1 ≤ result → spent + result + 3 ≤ 2 * count + done }
 {
-    (2 * count + done).saturating_sub(spent.saturating_add(AROUND_RUN))
+    let left = count - 2 - done;
+    let room = (2 * count + done).saturating_sub(spent.saturating_add(AROUND_RUN));
+    if room < TRIAL.min(left) {
+        return 0;
+    }
+    left.min(room)
 }
 
 /// Stores a value to the first element of a block, and to the others in runs but for the last ones, by x8 and x9 of the selected hart: how many are
@@ -270,12 +276,11 @@ pub fn store_front<D: Dmi>(
     let mut trial = true;
     let mut spent = STARTED;
     'runs: while looks <= LOOKS_MOST && done + 2 < count {
-        let left = count - 2 - done;
-        let room = store_room(count, done, spent);
-        if room < TRIAL.min(left) {
+        let most = store_most(count, done, spent);
+        if most == 0 {
             return Ok(done);
         }
-        let run = next_run(left.min(room), looks, 1, trial);
+        let run = next_run(most, looks, 1, trial);
         match run_at(link, size, address, done, run)? {
             None => {
                 done += 1 + run.more;

@@ -1,7 +1,7 @@
 use Rattle.probe_access.specs.ReadRuns.{is_wide, own_words}
 use Rattle.debug_model.proofs.RiseLemmas.{within_more, within_then}
 use Rattle.probe_access.proofs.BlockRises.{run_most, loads_wasted, loads_cut, loads_end}
-use Rattle.std.proofs.Common.{◌∙◌, arith, ◌≤◌, ◌+◌, ◌*◌, length}
+use Rattle.std.proofs.Common.{◌∙◌, arith, ◌≤◌, ◌+◌, ◌-◌, ◌*◌, length}
 use Rattle.probe_access.specs.ElementRuns.LoadsFailed.{in_start}
 use Rattle.probe_access.proofs.ElementCalls.{none_counted, none_on, start_as}
 use Rattle.probe_access.proofs.ReadHands.{runs_on, runs_stop}
@@ -48,9 +48,9 @@ runs-preserved-then-not-whole g c = record {
   fixed = c.load_run.ensures.keeps.fixed ∙ c.runs.invariant.fixed;
   few = omega (arith, c.runs-test.true);
   spent = run_left (is_wide c.args.size) c.in_ok-whole.whole c.args.count (length c.runs.into.items) (length c.load_run.new.into.items)
-      c.next_run-run.result.more c.load_room-room.result c.from-left.result c.own_words-own.result c.runs.spent c.spent_by.result c.own_words-own.ensures.words
-      c.spent_by.ensures c.in_ok-whole.ensures.more (omega arith) (omega arith) (omega (arith, c.next_run-run.ensures.within)) (omega arith)
-      (c.load_room-room.ensures.most (omega arith));
+      c.next_run-run.result.more c.load_most-most.result (c.args.count - 3 - c.len-in-runs.result) c.own_words-own.result c.runs.spent c.spent_by.result c.own_words-own.ensures.words
+      c.spent_by.ensures c.in_ok-whole.ensures.more (omega (arith, c.if-len-from.true, c.len.ensures.value, c.len-in-runs.ensures.value, c.from.ensures)) (omega (arith, c.if-len-from.true, c.len.ensures.value, c.len-in-runs.ensures.value, c.from.ensures)) c.next_run-run.ensures.within (omega (arith, c.if-most-eq0.false))
+      (c.load_most-most.ensures.most (omega (arith, c.if-most-eq0.false)));
   did = spent_then c.runs.spent c.spent_by.result (c.runs.spent + c.spent_by.result) _ (told (g.D.Dmi.seen c.runs.link)) _ (omega arith)
       c.runs.invariant.did
       (run_cost (is_wide c.args.size) c.in_ok-whole.whole c.next_run-run.result.more c.own_words-own.result c.spent_by.result _ _ c.own_words-own.ensures.words
@@ -67,6 +67,7 @@ runs-preserved-then-not-whole g c = record {
         arith,
         cost,
         c.next_run-run.ensures.within,
+        c.load_most-most.ensures.within,
       ) in
       within_then ((17 + 18 * length c.runs.into.items) + c.runs.looks * (8 * c.args.count)) (c.next_run-run.result.more * (c.next_run-run.result.looks +
       own_words (is_wide c.args.size)) + 18) ((17 + 18 * length c.load_run.new.into.items) + (c.runs.looks + 1) * (8 * c.args.count)) _ (g.D.Dmi.seen
@@ -85,9 +86,9 @@ runs-preserved g c = record {
   fixed = c.load_run.ensures.keeps.fixed ∙ c.runs.invariant.fixed;
   few = c.runs.invariant.few;
   spent = run_left (is_wide c.args.size) c.in_ok-whole.whole c.args.count (length c.runs.into.items) (length c.load_run.new.into.items)
-      c.next_run-run.result.more c.load_room-room.result c.from-left.result c.own_words-own.result c.runs.spent c.spent_by.result c.own_words-own.ensures.words
-      c.spent_by.ensures c.in_ok-whole.ensures.more (omega arith) (omega arith) (omega (arith, c.next_run-run.ensures.within)) (omega arith)
-      (c.load_room-room.ensures.most (omega arith));
+      c.next_run-run.result.more c.load_most-most.result (c.args.count - 3 - c.len-in-runs.result) c.own_words-own.result c.runs.spent c.spent_by.result c.own_words-own.ensures.words
+      c.spent_by.ensures c.in_ok-whole.ensures.more (omega (arith, c.if-len-from.true, c.len.ensures.value, c.len-in-runs.ensures.value, c.from.ensures)) (omega (arith, c.if-len-from.true, c.len.ensures.value, c.len-in-runs.ensures.value, c.from.ensures)) c.next_run-run.ensures.within (omega (arith, c.if-most-eq0.false))
+      (c.load_most-most.ensures.most (omega (arith, c.if-most-eq0.false)));
   did = spent_then c.runs.spent c.spent_by.result (c.runs.spent + c.spent_by.result) _ (told (g.D.Dmi.seen c.runs.link)) _ (omega arith)
       c.runs.invariant.did
       (run_cost (is_wide c.args.size) c.in_ok-whole.whole c.next_run-run.result.more c.own_words-own.result c.spent_by.result _ _ c.own_words-own.ensures.words
@@ -126,6 +127,7 @@ returns-in_err-whole-clause-rises g c =
     (c.next_run-run.result.looks + own_words (is_wide c.args.size))) c.args.count (omega (arith, c.runs-test.true)) cost (omega (
       arith,
       c.next_run-run.ensures.within,
+      c.load_most-most.ensures.within,
       c.if-len-from.true,
       c.len.ensures.value,
       c.len-in-runs.ensures.value,
@@ -153,8 +155,8 @@ returns-in_err-whole-clause-few_failed g c =
     err_failed _ c.in_err-whole.field-0.0 _ c.from_residual-in_err-whole.ensures.1
     (unbroken_then c.runs.spent (c.next_run-run.result.more * own_words (is_wide c.args.size) + 9) (3 * c.args.count + 11) _
     (told (g.D.Dmi.seen c.runs.link)) _ c.in_err-whole.field-0.0
-    (run_fails (is_wide c.args.size) c.args.count c.next_run-run.result.more c.load_room-room.result c.from-left.result c.runs.spent (omega arith)
-    (omega (arith, c.next_run-run.ensures.within)) (omega arith) (c.load_room-room.ensures.most (omega arith)))
+    (run_fails (is_wide c.args.size) c.args.count c.next_run-run.result.more c.load_most-most.result (c.args.count - 3 - c.len-in-runs.result) c.runs.spent
+    (omega (arith, c.if-len-from.true, c.len.ensures.value, c.len-in-runs.ensures.value, c.from.ensures)) c.next_run-run.ensures.within (omega (arith, c.if-most-eq0.false)) (c.load_most-most.ensures.most (omega (arith, c.if-most-eq0.false))))
     c.runs.invariant.did c.in_err-whole.ensures.few_failed)
 
 pub returns-else-len-from-clause-rest : goal.returns-else-len-from-clause-rest
@@ -183,20 +185,20 @@ returns-after-runs-clause-done g c =
     within_more ((17 + 18 * length c.runs.into.items) + c.runs.looks * (8 * c.args.count)) (17 + 18 * length c.runs.into.items + 56 * c.args.count) _ _
     c.runs.invariant.rises (runs_rise (length c.runs.into.items) c.runs.looks c.args.count c.runs.invariant.few)
 
-pub returns-then-room-min-clause-rest : goal.returns-then-room-min-clause-rest
-returns-then-room-min-clause-rest g c =
+pub returns-then-most-eq0-clause-rest : goal.returns-then-most-eq0-clause-rest
+returns-then-most-eq0-clause-rest g c =
     λ some. rest_left (is_wide c.args.size) c.args.count (length c.runs.into.items) c.runs.spent some c.runs.invariant.spent
 
-pub returns-then-room-min-clause-last : goal.returns-then-room-min-clause-last
-returns-then-room-min-clause-last g c =
+pub returns-then-most-eq0-clause-last : goal.returns-then-most-eq0-clause-last
+returns-then-most-eq0-clause-last g c =
     λ last. runs_end (is_wide c.args.size) c.args.count (length c.runs.into.items) c.runs.spent c.runs.invariant.most c.runs.invariant.spent last
 
-pub returns-then-room-min-clause-done : goal.returns-then-room-min-clause-done
-returns-then-room-min-clause-done g c =
+pub returns-then-most-eq0-clause-done : goal.returns-then-most-eq0-clause-done
+returns-then-most-eq0-clause-done g c =
     within_more ((17 + 18 * length c.runs.into.items) + c.runs.looks * (8 * c.args.count)) (17 + 18 * length c.runs.into.items + 56 * c.args.count) _ _
     c.runs.invariant.rises (runs_rise (length c.runs.into.items) c.runs.looks c.args.count c.runs.invariant.few)
 
-pub returns-then-room-min-clause-rises : goal.returns-then-room-min-clause-rises
-returns-then-room-min-clause-rises g c =
+pub returns-then-most-eq0-clause-rises : goal.returns-then-most-eq0-clause-rises
+returns-then-most-eq0-clause-rises g c =
     within_more ((17 + 18 * length c.runs.into.items) + c.runs.looks * (8 * c.args.count)) (74 * c.args.count) _ _ c.runs.invariant.rises (loads_end (length
     c.runs.into.items) c.runs.looks c.args.count c.runs.invariant.most c.runs.invariant.few)

@@ -40,14 +40,14 @@ pub returns-in_err-run_at-clause-failed : goal.returns-in_err-run_at-clause-fail
 returns-in_err-run_at-clause-failed g c =
     err_failed _ c.in_err-run_at.field-0.0 _ c.from_residual-in_err-run_at.ensures.1
     (stores_fell c.args.size c.args.address c.args.value c.args.count c.runs.done c.next_run-run.result.more _ _ _ _ _ _ c.in_err-run_at.field-0.0
-    (omega (arith, c.next_run-run.ensures.within, c.if-done-count.true))
+    (omega (arith, c.next_run-run.ensures.within, c.store_most-most.ensures.within, c.if-done-count.true))
     c.runs.invariant.later c.run_at.ensures.keeps.later c.runs.invariant.on c.in_err-run_at.ensures.fell)
 
 pub runs-preserved-in-None : goal.runs-preserved-in-None
 runs-preserved-in-None g c = record {
   on = stores_ran c.args.size c.args.address c.args.value c.args.count c.runs.done c.next_run-run.result.more c.in_ok-run_at.field-0 _ _ _ c.in-None.is
-      (omega (arith, c.next_run-run.ensures.within, c.if-done-count.true)) c.runs.invariant.on c.in_ok-run_at.ensures.ran;
-  most = omega (arith, c.next_run-run.ensures.within, c.if-done-count.true);
+      (omega (arith, c.next_run-run.ensures.within, c.store_most-most.ensures.within, c.if-done-count.true)) c.runs.invariant.on c.in_ok-run_at.ensures.ran;
+  most = omega (arith, c.next_run-run.ensures.within, c.store_most-most.ensures.within, c.if-done-count.true);
   callable = record { alive = c.in_ok-run_at.ensures.keeps.behind.alive; link = c.in_ok-run_at.ensures.keeps.behind.link };
   stands = c.in_ok-run_at.ensures.keeps.behind;
   later = omega (arith, c.runs.invariant.later, c.run_at.ensures.keeps.later);
@@ -69,7 +69,7 @@ returns-in_err-start_block-in-Some-clause-failed g c =
     err_failed _ c.in_err-start_block-in-Some.field-0.0 _ c.from_residual-in_err-start_block-in-Some.ensures.1
     (again_failed _ c.args.size c.args.address c.args.value c.args.count c.runs.done c.next_run-run.result.more c.in-Some.found c.element-at.result
     c.in_ok-run_at.field-0 _ _ _ _ _ _ _ c.in_err-start_block-in-Some.field-0.0 c.store_of-in-Some.ensures c.element-at.ensures c.in-Some.is
-    (omega (arith, c.next_run-run.ensures.within, c.if-done-count.true))
+    (omega (arith, c.next_run-run.ensures.within, c.store_most-most.ensures.within, c.if-done-count.true))
     (omega (arith, c.runs.invariant.later, c.run_at.ensures.keeps.later)) c.start_block-in-Some.ensures.keeps.later c.runs.invariant.on
     c.in_ok-run_at.ensures.ran c.in_err-start_block-in-Some.ensures.failed)
 
@@ -77,11 +77,12 @@ pub runs-preserved : goal.runs-preserved
 runs-preserved g c = record {
   on = stores_again _ c.args.size c.args.address c.args.value c.args.count c.runs.done c.next_run-run.result.more c.in-Some.found c.element-at.result
       c.in_ok-run_at.field-0 _ _ _ _ c.store_of-in-Some.ensures c.element-at.ensures c.in-Some.is
-      (omega (arith, c.next_run-run.ensures.within, c.if-done-count.true)) c.runs.invariant.on c.in_ok-run_at.ensures.ran
+      (omega (arith, c.next_run-run.ensures.within, c.store_most-most.ensures.within, c.if-done-count.true)) c.runs.invariant.on c.in_ok-run_at.ensures.ran
       c.in_ok-start_block-in-Some.ensures.started;
   most = omega (
     arith,
     c.next_run-run.ensures.within,
+    c.store_most-most.ensures.within,
     c.if-done-count.true,
     some_most c.args.size c.args.address c.runs.done c.next_run-run.result.more
         c.in-Some.found c.in_ok-run_at.field-0 _ _ c.in-Some.is c.in_ok-run_at.ensures.ran,
@@ -94,7 +95,7 @@ runs-preserved g c = record {
   spent = omega (
     arith,
     c.next_run-run.ensures.within,
-    c.store_room-room.ensures.most,
+    c.store_most-most.ensures.most (omega (arith, c.if-most-eq0.false)),
     some_least c.args.size c.args.address c.runs.done c.next_run-run.result.more c.in-Some.found c.in_ok-run_at.field-0 _ _ c.in-Some.is
         c.in_ok-run_at.ensures.ran,
   );
@@ -106,7 +107,7 @@ runs-preserved g c = record {
       (started_spent c.store_of-in-Some.result c.args.size c.element-at.result _ _ c.in_ok-start_block-in-Some.ensures.started);
   rises = let cost : c.next_run-run.result.more * (c.next_run-run.result.looks + 1) ≤ 7 * c.next_run-run.result.more =
       run_most 7 c.next_run-run.result.more (c.next_run-run.result.looks + 1) (omega (arith, c.next_run-run.ensures.looks, c.runs-test.true)) in
-      let waste : c.next_run-run.result.more * (c.next_run-run.result.looks + 1) ≤ 7 * c.args.count = omega (arith, cost, c.next_run-run.ensures.within) in
+      let waste : c.next_run-run.result.more * (c.next_run-run.result.looks + 1) ≤ 7 * c.args.count = omega (arith, cost, c.next_run-run.ensures.within, c.store_most-most.ensures.within) in
       within_then (((25 + 8 * c.runs.done) + c.runs.looks * (7 * c.args.count + 33)) + (c.next_run-run.result.more * (c.next_run-run.result.looks + 1) + 24))
       17 ((25 + 8 * (c.in-Some.found + 1)) + (c.runs.looks + 1) * (7 * c.args.count + 33)) _ (g.D.Dmi.seen c.run_at.new.link) _ (within_then ((25 + 8 *
       c.runs.done) + c.runs.looks * (7 * c.args.count + 33)) (c.next_run-run.result.more * (c.next_run-run.result.looks + 1) + 24) (((25 + 8 * c.runs.done) +
@@ -145,6 +146,7 @@ returns-in_err-run_at-clause-rises g c =
           (c.next_run-run.result.looks + 1)) c.args.count (omega (arith, c.runs-test.true)) cost (omega (
             arith,
             c.next_run-run.ensures.within,
+            c.store_most-most.ensures.within,
             c.if-done-count.true,
           )),
     ))
@@ -165,6 +167,7 @@ returns-in_err-start_block-in-Some-clause-rises g c =
           (c.next_run-run.result.more * (c.next_run-run.result.looks + 1)) c.args.count (omega (arith, c.runs-test.true)) cost (omega (
             arith,
             c.next_run-run.ensures.within,
+            c.store_most-most.ensures.within,
             c.if-done-count.true,
           )),
     ))
@@ -196,13 +199,13 @@ pub returns-in_err-run_at-clause-few_failed : goal.returns-in_err-run_at-clause-
 returns-in_err-run_at-clause-few_failed g c =
     err_failed _ c.in_err-run_at.field-0.0 _ c.from_residual-in_err-run_at.ensures.1
     (unbroken_then c.runs.spent (c.next_run-run.result.more + 7) (3 * c.args.count + 11) _ (told (g.D.Dmi.seen c.runs.link)) _ c.in_err-run_at.field-0.0
-    (omega (arith, c.next_run-run.ensures.within, c.store_room-room.ensures.most, c.if-done-count.true)) c.runs.invariant.did c.in_err-run_at.ensures.few_failed)
+    (omega (arith, c.next_run-run.ensures.within, c.store_most-most.ensures.most (omega (arith, c.if-most-eq0.false)), c.if-done-count.true)) c.runs.invariant.did c.in_err-run_at.ensures.few_failed)
 
 pub returns-in_err-start_block-in-Some-clause-few_failed : goal.returns-in_err-start_block-in-Some-clause-few_failed
 returns-in_err-start_block-in-Some-clause-few_failed g c =
     err_failed _ c.in_err-start_block-in-Some.field-0.0 _ c.from_residual-in_err-start_block-in-Some.ensures.1
     (unbroken_then (c.runs.spent + (c.next_run-run.result.more + 7)) 8 (3 * c.args.count + 11) _ (told (g.D.Dmi.seen c.run_at.new.link)) _
-    c.in_err-start_block-in-Some.field-0.0 (omega (arith, c.next_run-run.ensures.within, c.store_room-room.ensures.most, c.if-done-count.true))
+    c.in_err-start_block-in-Some.field-0.0 (omega (arith, c.next_run-run.ensures.within, c.store_most-most.ensures.most (omega (arith, c.if-most-eq0.false)), c.if-done-count.true))
     (spent_then c.runs.spent (c.next_run-run.result.more + 7) (c.runs.spent + (c.next_run-run.result.more + 7)) _ (told (g.D.Dmi.seen c.runs.link)) _
     (omega arith) c.runs.invariant.did
     (run_some_spent c.next_run-run.result.more c.in-Some.found c.in_ok-run_at.field-0 _ _ c.in-Some.is c.in_ok-run_at.ensures.few))
@@ -216,3 +219,12 @@ returns-else-done-count-clause-few g c =
 pub returns-after-runs-clause-few : goal.returns-after-runs-clause-few
 returns-after-runs-clause-few g c =
     spent_more c.runs.spent (2 * c.args.count + 10 + c.runs.done) _ _ c.runs.invariant.spent c.runs.invariant.did
+
+pub returns-then-most-eq0-clause-few : goal.returns-then-most-eq0-clause-few
+returns-then-most-eq0-clause-few g c =
+    spent_more c.runs.spent (2 * c.args.count + 10 + c.runs.done) _ _ c.runs.invariant.spent c.runs.invariant.did
+
+pub returns-then-most-eq0-clause-rises : goal.returns-then-most-eq0-clause-rises
+returns-then-most-eq0-clause-rises g c =
+    within_more ((25 + 8 * c.runs.done) + c.runs.looks * (7 * c.args.count + 33)) (57 * c.args.count + 256) _ _ c.runs.invariant.rises (stores_end
+    c.runs.done c.runs.looks c.args.count c.runs.invariant.most c.runs.invariant.few)
