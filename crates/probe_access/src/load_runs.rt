@@ -356,9 +356,10 @@ pub fn load_front<D: Dmi>(
     ensures rises { Within (74 * count) (D.seen link.old) (D.seen link.new) }
     ensures keeps { Keeps access_why (D.seen link.old) (D.seen link.new) result }
 {
-    let _spent = load_in_runs(link, size, address, count, into)?;
-    if into.len() + 3 < usize::from(count) {
-        load_awaited(link, size, address, count, into)?;
+    load_in_runs(link, size, address, count, into)?;
+    if into.len() + 3 >= usize::from(count) {
+        return Ok(());
     }
+    load_awaited(link, size, address, count, into)?;
     Ok(())
 }
