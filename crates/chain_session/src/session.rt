@@ -8,6 +8,7 @@ ghost use Rattle.wire_session.specs.Closing.{IsOfRegister};
 ghost use Rattle.wire_session.specs.Session.{LeavesWire, told_by};
 ghost use Rattle.wire_session.specs.WireSession.{IsTimed, WireSession, WireUpTo};
 ghost use Rattle.probe_session.specs.Causes.{EndCaused, SinkCaused};
+ghost use Rattle.probe_session.specs.Never.{EndsInTime};
 ghost use Rattle.probe_session.specs.Scripts.{EndedAs};
 ghost use Rattle.probe_session.specs.Transcribed.{TranscribedAs};
 ghost use Rattle.probe_session.specs.UnderWay.{EndedUpTo};
@@ -44,6 +45,7 @@ fn run_over<W: ChainWire, K: Sink>(
         (told_by (chip_told (W.far result.1)) (W.coming result.1)) (K.fault_count out.old) (K.fault_count out.new) (K.contents out.old)
         (K.contents out.new) result.0 }
     ensures rises { WithinBudget (Some chain_slack) script.now (chip_told (W.far wire)) (chip_told (W.far result.1)) }
+    ensures never { EndsInTime (chip_told (W.far wire)) result.0 }
     ensures leaves { LeavesWire (chip_told (W.far result.1)) result.0 }
     ensures later { W.fault_count wire ≤ W.fault_count result.1 }
     ensures ties { W.ties result.1 ≡ W.ties wire }
@@ -81,6 +83,7 @@ pub fn run_chain_session<W: ChainWire, K: Sink>(
         (record { printed = K.contents out.new; faults = K.fault_count out.new })
         result }
     ensures rises { WithinBudget (Some chain_slack) script.now (chip_told (W.far wire.old)) (chip_told (W.far wire.new)) }
+    ensures never { EndsInTime (chip_told (W.far wire.old)) result }
     ensures of_register { IsOfRegister result }
     ensures sink_cause { SinkCaused (K.fault_count out.old) (K.fault_count out.new) result }
     ensures ties { W.ties wire.new ≡ W.ties wire.old }

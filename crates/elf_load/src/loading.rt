@@ -7,6 +7,7 @@ ghost use Rattle.probe_access.specs.Accesses.{IfMemory};
 ghost use Rattle.probe_access.specs.Cuts.{IfCut, Leaves};
 ghost use Rattle.probe_run.specs.Told.{Fails, OnChip, told};
 ghost use Rattle.debug_model.specs.Rises.{Within};
+ghost use Rattle.probe_access.specs.Never.{NeverLost};
 ghost use Rattle.elf_load.specs.Elf.{ReadsAs, elements, elements_most, memory_size};
 ghost use Rattle.elf_load.specs.Fields.{segments_of};
 ghost use Rattle.elf_load.specs.Runs.{calls_most, load_rises};
@@ -43,6 +44,7 @@ pub fn load_elf<D: Dmi>(link: &mut D, elf: &Elf, file: &[u8]) -> Result<u64, Acc
     ensures ready { OnOk result (IsReady (D.seen link.new).far) }
     ensures ready_again { IfErr result (IfMemory (IsReady (D.seen link.new).far)) }
     ensures rises { Within (load_rises file.now) (D.seen link.old) (D.seen link.new) }
+    ensures never { IfErr result (NeverLost (D.seen link.old)) }
     ensures keeps { StoresKeep (elements file.now) (D.seen link.old) (D.seen link.new) result }
 {
     let segments = elf.segments.as_slice();

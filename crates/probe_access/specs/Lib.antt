@@ -26,3 +26,4 @@ pub mod Spent
 pub mod Stops
 pub mod RegisterAccess
 pub mod ReadRuns
+pub mod Never

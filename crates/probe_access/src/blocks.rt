@@ -4,6 +4,7 @@ ghost use Rattle.std.specs.Prelude.{◌≡◌, ◌≤◌, ◌<◌, ◌+◌, ◌*
 ghost use Rattle.rv_model.specs.Memory.{is_aligned};
 ghost use Rattle.rv_model.specs.Size.{count_of};
 ghost use Rattle.debug_model.specs.Rises.{Within};
+ghost use Rattle.probe_access.specs.Never.{NeverLost};
 ghost use Rattle.debug_model.specs.Command.{most_elements, all_addresses};
 ghost use Rattle.probe_access.specs.Accesses.{IfMemory};
 ghost use Rattle.probe_access.specs.BlockCuts.{BlockLoadCut, BlockStoreCut};
@@ -59,6 +60,7 @@ fn load_elements<D: Dmi>(
     ensures loaded { OnOk result (LoadsInside size address count into.new.items (told (D.seen link.old)) (told (D.seen link.new))) }
     ensures failed { IfErr result (Fails (LoadsFailed size address count into.new.items) (D.seen link.old) (D.seen link.new)) }
     ensures rises { Within (82 * count + 16) (D.seen link.old) (D.seen link.new) }
+    ensures never { IfErr result (NeverLost (D.seen link.old)) }
     ensures keeps { Keeps access_why (D.seen link.old) (D.seen link.new) result }
 {
     load_front(link, size, address, count, into)?;
@@ -91,6 +93,7 @@ fn store_elements<D: Dmi>(
     ensures stored { OnOk result (StoresOn size address value count (told (D.seen link.old)) count (told (D.seen link.new))) }
     ensures failed { IfErr result (Fails (StoresFailed size address value count) (D.seen link.old) (D.seen link.new)) }
     ensures rises { Within (63 * count + 256) (D.seen link.old) (D.seen link.new) }
+    ensures never { IfErr result (NeverLost (D.seen link.old)) }
     ensures keeps { Keeps access_why (D.seen link.old) (D.seen link.new) result }
 {
     let done = store_front(link, size, address, count, value)?;
@@ -118,6 +121,7 @@ fn loads_around<D: Dmi>(
     ensures loaded { OnOk result (LoadRuns size address count (told (D.seen link.old)) into.new.items (told (D.seen link.new))) }
     ensures failed { IfErr result (Fails (LoadRunsFailed size address count into.new.items) (D.seen link.old) (D.seen link.new)) }
     ensures rises { Within (load_rises count) (D.seen link.old) (D.seen link.new) }
+    ensures never { IfErr result (NeverLost (D.seen link.old)) }
     ensures keeps { Keeps access_why (D.seen link.old) (D.seen link.new) result }
 {
     let scratch = save_scratch(link)?;
@@ -159,6 +163,7 @@ pub fn load_block<D: Dmi>(
     ensures serving { OnOk result (Serving halted.now.number (D.seen link.new).far) }
     ensures serving_still { IfErr result (IfMemory (Serving halted.now.number (D.seen link.new).far)) }
     ensures rises { Within (load_rises count) (D.seen link.old) (D.seen link.new) }
+    ensures never { IfErr result (NeverLost (D.seen link.old)) }
     ensures keeps { Keeps access_why (D.seen link.old) (D.seen link.new) result }
 {
     let _halted = halted;
@@ -181,6 +186,7 @@ fn stores_around<D: Dmi>(
     ensures stored { OnOk result (StoreRuns size address value (told (D.seen link.old)) count (told (D.seen link.new))) }
     ensures failed { IfErr result (Fails (StoreRunsFailed size address value count) (D.seen link.old) (D.seen link.new)) }
     ensures rises { Within (store_rises count) (D.seen link.old) (D.seen link.new) }
+    ensures never { IfErr result (NeverLost (D.seen link.old)) }
     ensures keeps { Keeps access_why (D.seen link.old) (D.seen link.new) result }
 {
     let scratch = save_scratch(link)?;
@@ -218,6 +224,7 @@ pub fn store_block<D: Dmi>(
     ensures serving { OnOk result (Serving halted.now.number (D.seen link.new).far) }
     ensures serving_still { IfErr result (IfMemory (Serving halted.now.number (D.seen link.new).far)) }
     ensures rises { Within (store_rises count) (D.seen link.old) (D.seen link.new) }
+    ensures never { IfErr result (NeverLost (D.seen link.old)) }
     ensures keeps { Keeps access_why (D.seen link.old) (D.seen link.new) result }
 {
     let _halted = halted;

@@ -7,6 +7,7 @@ ghost use Rattle.probe_access.specs.Accesses.{AccessLeft, BusLoadRefused, BusLoa
 ghost use Rattle.probe_access.specs.BusRuns.{BusLoadFailed, BusLoaded, BusStoreFailed, BusStored};
 ghost use Rattle.probe_access.specs.Cuts.{BusLeftOff, IfCut, Leaves, LoadLeaves, StoreLeaves};
 ghost use Rattle.debug_model.specs.Rises.{Within};
+ghost use Rattle.probe_access.specs.Never.{NeverLost};
 ghost use Rattle.debug_model.specs.Kept.{CanCall, Keeps};
 ghost use Rattle.probe_run.specs.Told.{Fails, OnChip, told};
 ghost use Rattle.probe_access.specs.Faults.{access_why};
@@ -31,6 +32,7 @@ pub fn bus_load<D: Dmi>(link: &mut D, size: Size, address: u64) -> Result<u64, A
     ensures ready { OnOk result (IsReady (D.seen link.new).far) }
     ensures ready_again { IfErr result (IfMemory (IsReady (D.seen link.new).far)) }
     ensures rises { Within 7 (D.seen link.old) (D.seen link.new) }
+    ensures never { IfErr result (NeverLost (D.seen link.old)) }
     ensures keeps { Keeps access_why (D.seen link.old) (D.seen link.new) result }
 {
     start_read(link, size, address)?;
@@ -59,6 +61,7 @@ pub fn bus_store<D: Dmi>(
     ensures ready { OnOk result (IsReady (D.seen link.new).far) }
     ensures ready_again { IfErr result (IfMemory (IsReady (D.seen link.new).far)) }
     ensures rises { Within 7 (D.seen link.old) (D.seen link.new) }
+    ensures never { IfErr result (NeverLost (D.seen link.old)) }
     ensures keeps { Keeps access_why (D.seen link.old) (D.seen link.new) result }
 {
     start_write(link, size, address, value)?;

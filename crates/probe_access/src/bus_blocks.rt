@@ -4,6 +4,7 @@ ghost use Rattle.std.specs.Prelude.{◌≡◌, ◌⊎◌, ◌≤◌, ◌+◌, �
 ghost use Rattle.rv_model.specs.Memory.{is_aligned};
 ghost use Rattle.rv_model.specs.Size.{count_of};
 ghost use Rattle.debug_model.specs.Rises.{Within};
+ghost use Rattle.probe_access.specs.Never.{NeverLost};
 ghost use Rattle.debug_model.specs.Command.{most_elements, all_addresses};
 ghost use Rattle.debug_model.specs.Told.{IsReady};
 ghost use Rattle.probe_access.specs.Accesses.{IfMemory};
@@ -90,6 +91,7 @@ fn load_runs<D: Dmi>(
     ensures ready { OnOk result (IsReady (D.seen link.new).far) }
     ensures ready_again { IfErr result (IfMemory (IsReady (D.seen link.new).far)) }
     ensures rises { Within (2 * count + 22) (D.seen link.old) (D.seen link.new) }
+    ensures never { IfErr result (NeverLost (D.seen link.old)) }
     ensures keeps { Keeps access_why (D.seen link.old) (D.seen link.new) result }
 {
     let first = first_run(size, count);
@@ -142,6 +144,7 @@ pub fn bus_load_block<D: Dmi>(
     ensures ready { OnOk result (IsReady (D.seen link.new).far) }
     ensures ready_again { IfErr result (IfMemory (IsReady (D.seen link.new).far)) }
     ensures rises { Within (bus_load_rises count) (D.seen link.old) (D.seen link.new) }
+    ensures never { IfErr result (NeverLost (D.seen link.old)) }
     ensures keeps { Keeps access_why (D.seen link.old) (D.seen link.new) result }
 {
     load_runs(link, size, address, count, into)?;
@@ -182,6 +185,7 @@ pub fn bus_store_values<D: Dmi>(
     ensures ready { OnOk result (IsReady (D.seen link.new).far) }
     ensures ready_again { IfErr result (IfMemory (IsReady (D.seen link.new).far)) }
     ensures rises { Within (bus_values_rises values.now) (D.seen link.old) (D.seen link.new) }
+    ensures never { IfErr result (NeverLost (D.seen link.old)) }
     ensures keeps { Keeps access_why (D.seen link.old) (D.seen link.new) result }
 {
     let done = store_run(link, size, address, values)?;
@@ -219,6 +223,7 @@ pub fn bus_store_block<D: Dmi>(
     ensures ready { OnOk result (IsReady (D.seen link.new).far) }
     ensures ready_again { IfErr result (IfMemory (IsReady (D.seen link.new).far)) }
     ensures rises { Within (bus_store_rises count) (D.seen link.old) (D.seen link.new) }
+    ensures never { IfErr result (NeverLost (D.seen link.old)) }
     ensures keeps { Keeps access_why (D.seen link.old) (D.seen link.new) result }
 {
     let values = [value; ELEMENTS_MOST];

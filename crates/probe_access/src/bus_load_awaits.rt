@@ -4,6 +4,7 @@
 ghost use Rattle.std.specs.Prelude.{◌≡◌, ◌≤◌, ◌<◌, ◌+◌, ◌*◌, length, IfErr, OnOk};
 ghost use Rattle.rv_model.specs.Size.{count_of};
 ghost use Rattle.debug_model.specs.Rises.{Within};
+ghost use Rattle.probe_access.specs.Never.{NeverLost};
 ghost use Rattle.debug_model.specs.Command.{all_addresses, most_elements};
 ghost use Rattle.debug_model.specs.Kept.{CanCall, Keeps};
 ghost use Rattle.probe_access.specs.BusAwaits.{AllAwaited, AwaitedLoadsFailed, LoadLastFailed, LoadNextFailed, LoadedLast, LoadedNext};
@@ -32,6 +33,7 @@ fn load_next<D: Dmi>(
     ensures failed { IfErr result (Fails (LoadNextFailed at) (D.seen link.old) (D.seen link.new)) }
     ensures unchanged { IfErr result (λ fault. into.new.items ≡ into.old.items) }
     ensures rises { Within 4 (D.seen link.old) (D.seen link.new) }
+    ensures never { IfErr result (NeverLost (D.seen link.old)) }
     ensures keeps { Keeps access_why (D.seen link.old) (D.seen link.new) result }
 {
     finish(link, at)?;
@@ -52,6 +54,7 @@ fn load_last<D: Dmi>(
     ensures failed { IfErr result (Fails (LoadLastFailed size at) (D.seen link.old) (D.seen link.new)) }
     ensures unchanged { IfErr result (λ fault. into.new.items ≡ into.old.items) }
     ensures rises { Within 5 (D.seen link.old) (D.seen link.new) }
+    ensures never { IfErr result (NeverLost (D.seen link.old)) }
     ensures keeps { Keeps access_why (D.seen link.old) (D.seen link.new) result }
 {
     finish(link, at)?;
@@ -76,6 +79,7 @@ pub fn load_awaited<D: Dmi>(
     ensures loaded { OnOk result (AllAwaited size address count into.old.items into.new.items (told (D.seen link.old)) (told (D.seen link.new))) }
     ensures failed { IfErr result (Fails (AwaitedLoadsFailed size address count into.old.items into.new.items) (D.seen link.old) (D.seen link.new)) }
     ensures rises { Within (4 * count + 4) (D.seen link.old) (D.seen link.new) }
+    ensures never { IfErr result (NeverLost (D.seen link.old)) }
     ensures keeps { Keeps access_why (D.seen link.old) (D.seen link.new) result }
 {
     let done = into.len() as u16;

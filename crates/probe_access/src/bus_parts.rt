@@ -5,7 +5,8 @@ ghost use Rattle.probe_run.specs.Acts.{Did};
 ghost use Rattle.probe_access.specs.BusRuns.{BusEndFailed, BusEnded, BusFetched, BusFetching, BusPollFailed, BusPolled, Starting, access_number, addressed};
 ghost use Rattle.probe_access.specs.BusRuns.{read_started, setting, write_started};
 ghost use Rattle.probe_access.specs.Faults.{BrokeIn};
-ghost use Rattle.debug_model.specs.Rises.{Within};
+ghost use Rattle.debug_model.specs.Rises.{FailsByWire, Within};
+ghost use Rattle.probe_access.specs.Never.{NeverLost};
 ghost use Rattle.debug_model.specs.Kept.{CanCall, Keeps};
 ghost use Rattle.probe_run.specs.Told.{Breaks, Fails, told};
 ghost use Rattle.probe_access.specs.Faults.{access_why};
@@ -62,6 +63,7 @@ pub fn set_up<D: Dmi>(link: &mut D, setting: u32, address: u64) -> Result<(), Dm
     ensures did { OnOk result (Did (told (D.seen link.old)) (addressed setting address) (told (D.seen link.new))) }
     ensures broke { IfErr result (Breaks (BrokeIn (Starting (addressed setting address))) (D.seen link.old) (D.seen link.new)) }
     ensures rises { Within 3 (D.seen link.old) (D.seen link.new) }
+    ensures never { IfErr result (FailsByWire (D.seen link.old)) }
     ensures keeps { Keeps Some (D.seen link.old) (D.seen link.new) result }
 {
     link.write(Sbcs::ADDRESS, setting)?;
@@ -76,6 +78,7 @@ pub fn start_read<D: Dmi>(link: &mut D, size: Size, address: u64) -> Result<(), 
     ensures did { OnOk result (Did (told (D.seen link.old)) (read_started size address) (told (D.seen link.new))) }
     ensures broke { IfErr result (Breaks (BrokeIn (Starting (read_started size address))) (D.seen link.old) (D.seen link.new)) }
     ensures rises { Within 3 (D.seen link.old) (D.seen link.new) }
+    ensures never { IfErr result (FailsByWire (D.seen link.old)) }
     ensures keeps { Keeps Some (D.seen link.old) (D.seen link.new) result }
 {
     set_up(link, setting_of(true, size), address)?;
@@ -94,6 +97,7 @@ pub fn start_write<D: Dmi>(
     ensures did { OnOk result (Did (told (D.seen link.old)) (write_started size address value) (told (D.seen link.new))) }
     ensures broke { IfErr result (Breaks (BrokeIn (Starting (write_started size address value))) (D.seen link.old) (D.seen link.new)) }
     ensures rises { Within 5 (D.seen link.old) (D.seen link.new) }
+    ensures never { IfErr result (FailsByWire (D.seen link.old)) }
     ensures keeps { Keeps Some (D.seen link.old) (D.seen link.new) result }
 {
     set_up(link, setting_of(false, size), address)?;
@@ -108,6 +112,7 @@ pub fn poll_bus<D: Dmi>(link: &mut D) -> Result<u32, AccessFault>
     ensures polled { IfOk result (λ last. BusPolled last (told (D.seen link.old)) (told (D.seen link.new))) }
     ensures failed { IfErr result (Fails BusPollFailed (D.seen link.old) (D.seen link.new)) }
     ensures rises { Within 1 (D.seen link.old) (D.seen link.new) }
+    ensures never { IfErr result (NeverLost (D.seen link.old)) }
     ensures keeps { Keeps access_why (D.seen link.old) (D.seen link.new) result }
 {
     'polls: for _polls in 0..POLLS_MOST {
@@ -127,6 +132,7 @@ pub fn finish<D: Dmi>(link: &mut D, address: u64) -> Result<(), AccessFault>
     ensures ended { OnOk result (BusEnded (told (D.seen link.old)) (told (D.seen link.new))) }
     ensures failed { IfErr result (Fails (BusEndFailed address) (D.seen link.old) (D.seen link.new)) }
     ensures rises { Within 2 (D.seen link.old) (D.seen link.new) }
+    ensures never { IfErr result (NeverLost (D.seen link.old)) }
     ensures keeps { Keeps access_why (D.seen link.old) (D.seen link.new) result }
 {
     let last = poll_bus(link)?;
@@ -148,6 +154,7 @@ pub fn fetch<D: Dmi>(link: &mut D, size: Size) -> Result<u64, DmiFault>
     ensures fetched { IfOk result (λ value. BusFetched size value (told (D.seen link.old)) (told (D.seen link.new))) }
     ensures broke { IfErr result (Breaks (BrokeIn BusFetching) (D.seen link.old) (D.seen link.new)) }
     ensures rises { Within 2 (D.seen link.old) (D.seen link.new) }
+    ensures never { IfErr result (FailsByWire (D.seen link.old)) }
     ensures keeps { Keeps Some (D.seen link.old) (D.seen link.new) result }
 {
     let low = link.read(Sbdata0::ADDRESS)?;

@@ -2,7 +2,7 @@
 
 ghost use Rattle.std.specs.Prelude.{◌<◌, length, IfErr, IfOk, OnOk, Some};
 ghost use Rattle.rv_model.specs.declared.size.Size.TheVariants.{B8};
-ghost use Rattle.debug_model.specs.Rises.{Within};
+ghost use Rattle.debug_model.specs.Rises.{FailsByWire, Within};
 ghost use Rattle.debug_model.specs.Command.{most_elements};
 ghost use Rattle.debug_model.specs.Kept.{CanCall, Keeps};
 ghost use Rattle.probe_access.specs.BusRuns.{Starting};
@@ -26,6 +26,7 @@ pub fn start_run<D: Dmi>(link: &mut D, size: Size, address: u64) -> Result<(), D
     ensures did { OnOk result (Did (told (D.seen link.old)) (run_started size address) (told (D.seen link.new))) }
     ensures broke { IfErr result (Breaks (BrokeIn (Among (Starting (run_started size address)))) (D.seen link.old) (D.seen link.new)) }
     ensures rises { Within 3 (D.seen link.old) (D.seen link.new) }
+    ensures never { IfErr result (FailsByWire (D.seen link.old)) }
     ensures keeps { Keeps Some (D.seen link.old) (D.seen link.new) result }
 {
     let operations = [
@@ -51,6 +52,7 @@ fn end_narrow<D: Dmi>(
     ensures read { IfOk result (λ shown. EndRead size into.old.items into.new.items shown (told (D.seen link.old)) (told (D.seen link.new))) }
     ensures broke { IfErr result (Breaks (BrokeIn (Among (Ending size))) (D.seen link.old) (D.seen link.new)) }
     ensures rises { Within 3 (D.seen link.old) (D.seen link.new) }
+    ensures never { IfErr result (FailsByWire (D.seen link.old)) }
     ensures keeps { Keeps Some (D.seen link.old) (D.seen link.new) result }
 {
     let operations = [
@@ -75,6 +77,7 @@ fn end_double<D: Dmi>(
     ensures read { IfOk result (λ shown. EndRead B8 into.old.items into.new.items shown (told (D.seen link.old)) (told (D.seen link.new))) }
     ensures broke { IfErr result (Breaks (BrokeIn (Among (Ending B8))) (D.seen link.old) (D.seen link.new)) }
     ensures rises { Within 4 (D.seen link.old) (D.seen link.new) }
+    ensures never { IfErr result (FailsByWire (D.seen link.old)) }
     ensures keeps { Keeps Some (D.seen link.old) (D.seen link.new) result }
 {
     let operations = [
@@ -101,6 +104,7 @@ pub fn end_run<D: Dmi>(
     ensures read { IfOk result (λ shown. EndRead size into.old.items into.new.items shown (told (D.seen link.old)) (told (D.seen link.new))) }
     ensures broke { IfErr result (Breaks (BrokeIn (Among (Ending size))) (D.seen link.old) (D.seen link.new)) }
     ensures rises { Within 4 (D.seen link.old) (D.seen link.new) }
+    ensures never { IfErr result (FailsByWire (D.seen link.old)) }
     ensures keeps { Keeps Some (D.seen link.old) (D.seen link.new) result }
 {
     match size {

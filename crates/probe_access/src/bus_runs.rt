@@ -4,6 +4,7 @@ ghost use Rattle.std.specs.Prelude.{◌≡◌, ◌≢◌, ◌⊎◌, ◌≤◌, 
 ghost use Rattle.rv_model.specs.Memory.{is_aligned};
 ghost use Rattle.rv_model.specs.Size.{count_of};
 ghost use Rattle.debug_model.specs.Rises.{Within};
+ghost use Rattle.probe_access.specs.Never.{NeverLost};
 ghost use Rattle.debug_model.specs.Command.{all_addresses, most_elements};
 ghost use Rattle.debug_model.specs.Kept.{CanCall, Keeps, Stands};
 ghost use Rattle.debug_model.specs.Told.{IsReady};
@@ -45,6 +46,7 @@ fn await_end<D: Dmi>(link: &mut D, shown: u32) -> Result<u32, AccessFault>
     ensures polled { IfOk result (λ last. PolledOn shown last (told (D.seen link.old)) (told (D.seen link.new))) }
     ensures failed { IfErr result (Fails BusPollFailed (D.seen link.old) (D.seen link.new)) }
     ensures rises { Within 1 (D.seen link.old) (D.seen link.new) }
+    ensures never { IfErr result (NeverLost (D.seen link.old)) }
     ensures keeps { Keeps access_why (D.seen link.old) (D.seen link.new) result }
 {
     let bus = Sbcs::from_word(shown);
@@ -69,6 +71,7 @@ fn run<D: Dmi>(
     ensures read { IfOk result (λ last. RunRead size address count last into.new.items (told (D.seen link.old)) (told (D.seen link.new))) }
     ensures failed { IfErr result (Fails (RunFailed size address count) (D.seen link.old) (D.seen link.new)) }
     ensures rises { Within (2 * count + 6) (D.seen link.old) (D.seen link.new) }
+    ensures never { IfErr result (NeverLost (D.seen link.old)) }
     ensures keeps { Keeps access_why (D.seen link.old) (D.seen link.new) result }
 {
     start_run(link, size, address)?;
@@ -147,6 +150,7 @@ fn try_run<D: Dmi>(
     ensures loads { OnOk result (RunLoads size address count into.new.items (told (D.seen link.old)) (told (D.seen link.new))) }
     ensures fell { IfErr result (Fails (RunFell size address count into.new.items) (D.seen link.old) (D.seen link.new)) }
     ensures rises { Within (2 * count + 11) (D.seen link.old) (D.seen link.new) }
+    ensures never { IfErr result (NeverLost (D.seen link.old)) }
     ensures keeps { Keeps access_why (D.seen link.old) (D.seen link.new) result }
 {
     let last = run(link, size, address, count, into)?;
@@ -203,6 +207,7 @@ pub fn load_run<D: Dmi>(
     ensures ready { OnOk result (IsReady (D.seen link.new).far) }
     ensures ready_again { IfErr result (IfMemory (IsReady (D.seen link.new).far)) }
     ensures rises { Within (2 * count + 11) (D.seen link.old) (D.seen link.new) }
+    ensures never { IfErr result (NeverLost (D.seen link.old)) }
     ensures keeps { Keeps access_why (D.seen link.old) (D.seen link.new) result }
 {
     match try_run(link, size, address, count, into) {

@@ -4,6 +4,7 @@
 ghost use Rattle.std.specs.Prelude.{◌≤◌, ◌<◌, ◌+◌, ◌-◌, ◌*◌, length, IfErr, OnOk};
 ghost use Rattle.rv_model.specs.Size.{count_of};
 ghost use Rattle.debug_model.specs.Rises.{Within};
+ghost use Rattle.probe_access.specs.Never.{NeverLost};
 ghost use Rattle.debug_model.specs.Command.{all_addresses, most_elements};
 ghost use Rattle.debug_model.specs.Kept.{CanCall, Keeps};
 ghost use Rattle.probe_access.specs.BusAwaits.{AwaitedStoresFailed, StoreNextFailed, StoredNext, StoresAwaited};
@@ -25,6 +26,7 @@ fn store_next<D: Dmi>(link: &mut D, upper: u32, value: u64, at: u64) -> Result<(
     ensures stored { OnOk result (StoredNext upper value (told (D.seen link.old)) (told (D.seen link.new))) }
     ensures failed { IfErr result (Fails (StoreNextFailed upper value at) (D.seen link.old) (D.seen link.new)) }
     ensures rises { Within (length (element_puts upper value) + 2) (D.seen link.old) (D.seen link.new) }
+    ensures never { IfErr result (NeverLost (D.seen link.old)) }
     ensures keeps { Keeps access_why (D.seen link.old) (D.seen link.new) result }
 {
     write_element(link, upper, value)?;
@@ -48,6 +50,7 @@ pub fn store_awaited<D: Dmi>(
         (StoresAwaited size address values.now done (told (D.seen link.old)) (length values.now) (told (D.seen link.new))) }
     ensures failed { IfErr result (Fails (AwaitedStoresFailed size address values.now done (length values.now)) (D.seen link.old) (D.seen link.new)) }
     ensures rises { Within (words_from values.now done (length values.now - done) + 2 * length values.now + 4) (D.seen link.old) (D.seen link.new) }
+    ensures never { IfErr result (NeverLost (D.seen link.old)) }
     ensures keeps { Keeps access_why (D.seen link.old) (D.seen link.new) result }
 {
     let count = values.len() as u16;

@@ -2,7 +2,8 @@
 
 ghost use Rattle.std.specs.Prelude.{◌≡◌, ◌≢◌, ◌≤◌, ◌+◌, ◌*◌, length, true, false, IfErr, IfNone, IfOk, IfSome, OnOk, Some};
 ghost use Rattle.rv_model.specs.Size.{count_of};
-ghost use Rattle.debug_model.specs.Rises.{Within};
+ghost use Rattle.debug_model.specs.Rises.{FailsByWire, Within};
+ghost use Rattle.probe_access.specs.Never.{NeverLost};
 ghost use Rattle.debug_model.specs.Command.{all_addresses, most_elements};
 ghost use Rattle.debug_model.specs.Kept.{CanCall, Keeps};
 ghost use Rattle.probe_access.specs.BusRuns.{Starting, bus_error, outside_error};
@@ -55,6 +56,7 @@ pub fn start_stores<D: Dmi>(
     ensures did { OnOk result (Did (told (D.seen link.old)) (stores_started size address upper) (told (D.seen link.new))) }
     ensures broke { IfErr result (Breaks (BrokeIn (Starting (stores_started size address upper))) (D.seen link.old) (D.seen link.new)) }
     ensures rises { Within 4 (D.seen link.old) (D.seen link.new) }
+    ensures never { IfErr result (FailsByWire (D.seen link.old)) }
     ensures keeps { Keeps Some (D.seen link.old) (D.seen link.new) result }
 {
     set_up(link, storing_of(size), address)?;
@@ -70,6 +72,7 @@ fn run<D: Dmi>(link: &mut D, size: Size, address: u64, values: &[u64]) -> Result
     ensures polled { IfOk result (λ last. StoresPolled size address values.now (length values.now) last (told (D.seen link.old)) (told (D.seen link.new))) }
     ensures failed { IfErr result (Fails (StoresFailed size address values.now (length values.now)) (D.seen link.old) (D.seen link.new)) }
     ensures rises { Within (data_words values.now + 5) (D.seen link.old) (D.seen link.new) }
+    ensures never { IfErr result (NeverLost (D.seen link.old)) }
     ensures keeps { Keeps access_why (D.seen link.old) (D.seen link.new) result }
 {
     start_stores(link, size, address, upper_before(values, 0))?;
@@ -134,6 +137,7 @@ pub fn store_run<D: Dmi>(
         (λ done. RunStores size address values.now (length values.now) done (told (D.seen link.old)) (told (D.seen link.new))) }
     ensures fell { IfErr result (Fails (StoresFell size address values.now (length values.now)) (D.seen link.old) (D.seen link.new)) }
     ensures rises { Within (data_words values.now + 10) (D.seen link.old) (D.seen link.new) }
+    ensures never { IfErr result (NeverLost (D.seen link.old)) }
     ensures keeps { Keeps access_why (D.seen link.old) (D.seen link.new) result }
 {
     let count = values.len() as u16;

@@ -2,7 +2,7 @@
 //! holds another.
 
 ghost use Rattle.std.specs.Prelude.{◌≡◌, ◌≤◌, ◌<◌, ◌+◌, ◌-◌, ◌++◌, length, take, IfErr, IfOk, OnOk, Some};
-ghost use Rattle.debug_model.specs.Rises.{Within};
+ghost use Rattle.debug_model.specs.Rises.{FailsByWire, Within};
 ghost use Rattle.debug_model.specs.Command.{most_elements};
 ghost use Rattle.debug_model.specs.Kept.{CanCall, Keeps, Stands};
 ghost use Rattle.debug_model.specs.Many.{operations_most};
@@ -98,6 +98,7 @@ fn write_call<D: Dmi>(link: &mut D, values: &[u64], from: u16) -> Result<u16, Dm
         (Breaks (BrokeIn (Among (Starting (data_puts values.now from (length values.now - from))))) (D.seen link.old) (D.seen link.new)) }
     ensures rose { IfOk result (λ next. Within (words_from values.now from (next - from)) (D.seen link.old) (D.seen link.new)) }
     ensures rises { Within (words_from values.now from (length values.now - from)) (D.seen link.old) (D.seen link.new) }
+    ensures never { IfErr result (FailsByWire (D.seen link.old)) }
     ensures keeps { Keeps Some (D.seen link.old) (D.seen link.new) result }
 {
     let mut operations = [DmiOp::Read(Sbdata0::ADDRESS); OPERATIONS_MOST];
@@ -115,6 +116,7 @@ pub fn write_elements<D: Dmi>(link: &mut D, values: &[u64]) -> Result<(), DmiFau
     ensures broke { IfErr result
         (Breaks (BrokeIn (Among (Starting (data_puts values.now 0 (length values.now))))) (D.seen link.old) (D.seen link.new)) }
     ensures rises { Within (words_from values.now 0 (length values.now)) (D.seen link.old) (D.seen link.new) }
+    ensures never { IfErr result (FailsByWire (D.seen link.old)) }
     ensures keeps { Keeps Some (D.seen link.old) (D.seen link.new) result }
 {
     let count = values.len() as u16;
@@ -131,6 +133,7 @@ pub fn write_element<D: Dmi>(link: &mut D, upper: u32, value: u64) -> Result<(),
     ensures did { OnOk result (Did (told (D.seen link.old)) (element_puts upper value) (told (D.seen link.new))) }
     ensures broke { IfErr result (Breaks (BrokeIn (Among (Starting (element_puts upper value)))) (D.seen link.old) (D.seen link.new)) }
     ensures rises { Within (length (element_puts upper value)) (D.seen link.old) (D.seen link.new) }
+    ensures never { IfErr result (FailsByWire (D.seen link.old)) }
     ensures keeps { Keeps Some (D.seen link.old) (D.seen link.new) result }
 {
     let mut operations = [DmiOp::Read(Sbdata0::ADDRESS); 2];

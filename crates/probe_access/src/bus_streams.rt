@@ -2,7 +2,7 @@
 
 ghost use Rattle.std.specs.Prelude.{◌≡◌, ◌≤◌, ◌<◌, ◌+◌, ◌*◌, ◌^◌, ◌++◌, true, false, length, take, IfErr, IfOk, OnErr, OnOk, Some};
 ghost use Rattle.rv_model.specs.Size.{count_of};
-ghost use Rattle.debug_model.specs.Rises.{Within};
+ghost use Rattle.debug_model.specs.Rises.{FailsByWire, Within};
 ghost use Rattle.debug_model.specs.Command.{most_elements};
 ghost use Rattle.debug_model.specs.Kept.{CanCall, Keeps, Stands};
 ghost use Rattle.debug_model.specs.Many.{operations_most};
@@ -133,6 +133,7 @@ pub fn read_call<D: Dmi>(
     ensures broke { IfErr result (Breaks (BrokeIn (Among (ReadingData number))) (D.seen link.old) (D.seen link.new)) }
     ensures unchanged { IfErr result (λ fault. into.new.items ≡ into.old.items) }
     ensures rises { Within (2 * number) (D.seen link.old) (D.seen link.new) }
+    ensures never { IfErr result (FailsByWire (D.seen link.old)) }
     ensures keeps { Keeps Some (D.seen link.old) (D.seen link.new) result }
 {
     let mut operations = [DmiOp::Read(Sbdata0::ADDRESS); OPERATIONS_MOST];
@@ -169,6 +170,7 @@ pub fn read_elements<D: Dmi>(
     ensures read { OnOk result (MoreRead size number into.old.items into.new.items (told (D.seen link.old)) (told (D.seen link.new))) }
     ensures broke { IfErr result (Breaks (BrokeIn (Among (ReadingData number))) (D.seen link.old) (D.seen link.new)) }
     ensures rises { Within (2 * number) (D.seen link.old) (D.seen link.new) }
+    ensures never { IfErr result (FailsByWire (D.seen link.old)) }
     ensures keeps { Keeps Some (D.seen link.old) (D.seen link.new) result }
 {
     let mut left = number;
@@ -196,6 +198,7 @@ pub fn find<D: Dmi>(link: &mut D) -> Result<Held, DmiFault>
     ensures found { IfOk result (λ held. FoundAt held.address held.value (told (D.seen link.old)) (told (D.seen link.new))) }
     ensures broke { IfErr result (Breaks (BrokeIn (Among Finding)) (D.seen link.old) (D.seen link.new)) }
     ensures rises { Within 5 (D.seen link.old) (D.seen link.new) }
+    ensures never { IfErr result (FailsByWire (D.seen link.old)) }
     ensures keeps { Keeps Some (D.seen link.old) (D.seen link.new) result }
 {
     let operations = [

@@ -4,6 +4,7 @@ ghost use Rattle.probe_access.specs.CommandRuns.{CommandFailed, EndFailed, Ended
 ghost use Rattle.probe_access.specs.RegisterAccess.{program_command, transfer_command};
 ghost use Rattle.probe_access.specs.RegisterRuns.{double_written};
 ghost use Rattle.debug_model.specs.Rises.{Within};
+ghost use Rattle.probe_access.specs.Never.{NeverLost};
 ghost use Rattle.debug_model.specs.Kept.{CanCall, Keeps, Stands};
 ghost use Rattle.probe_run.specs.Told.{Fails, told};
 ghost use Rattle.probe_access.specs.Faults.{access_why};
@@ -58,6 +59,7 @@ fn await_end<D: Dmi>(link: &mut D, first: u32) -> Result<u32, AccessFault>
     ensures polled { IfOk result (λ last. PolledFrom first last (told (D.seen link.old)) (told (D.seen link.new))) }
     ensures failed { IfErr result (Fails (EndFailed first) (D.seen link.old) (D.seen link.new)) }
     ensures rises { Within 3 (D.seen link.old) (D.seen link.new) }
+    ensures never { IfErr result (NeverLost (D.seen link.old)) }
     ensures keeps { Keeps access_why (D.seen link.old) (D.seen link.new) result }
 {
     let mut word = first;
@@ -80,6 +82,7 @@ pub fn end_command<D: Dmi>(link: &mut D, first: u32) -> Result<u32, AccessFault>
     ensures ended { IfOk result (λ last. EndedFrom first last (told (D.seen link.old)) (told (D.seen link.new))) }
     ensures failed { IfErr result (Fails (EndFailed first) (D.seen link.old) (D.seen link.new)) }
     ensures rises { Within 4 (D.seen link.old) (D.seen link.new) }
+    ensures never { IfErr result (NeverLost (D.seen link.old)) }
     ensures keeps { Keeps access_why (D.seen link.old) (D.seen link.new) result }
 {
     let last = await_end(link, first)?;
@@ -99,6 +102,7 @@ pub fn run_command<D: Dmi>(link: &mut D, command: AbstractCommand) -> Result<u32
     ensures ran { IfOk result (λ last. RanCommand [] (command_word command) last (told (D.seen link.old)) (told (D.seen link.new))) }
     ensures failed { IfErr result (Fails (CommandFailed [] (command_word command)) (D.seen link.old) (D.seen link.new)) }
     ensures rises { Within 6 (D.seen link.old) (D.seen link.new) }
+    ensures never { IfErr result (NeverLost (D.seen link.old)) }
     ensures keeps { Keeps access_why (D.seen link.old) (D.seen link.new) result }
 {
     let operations = [
@@ -122,6 +126,7 @@ pub fn run_with<D: Dmi>(
     ensures ran { IfOk result (λ last. RanCommand (double_written value) (command_word command) last (told (D.seen link.old)) (told (D.seen link.new))) }
     ensures failed { IfErr result (Fails (CommandFailed (double_written value) (command_word command)) (D.seen link.old) (D.seen link.new)) }
     ensures rises { Within 8 (D.seen link.old) (D.seen link.new) }
+    ensures never { IfErr result (NeverLost (D.seen link.old)) }
     ensures keeps { Keeps access_why (D.seen link.old) (D.seen link.new) result }
 {
     let operations = [

@@ -5,6 +5,7 @@ ghost use Rattle.probe_access.specs.DcsrRuns.{DcsrAskFailed, DcsrAsked, DcsrRead
 ghost use Rattle.probe_access.specs.Registers.{RegisterReadAt};
 ghost use Rattle.probe_access.specs.Scratches.{ScratchLeft};
 ghost use Rattle.debug_model.specs.Rises.{Within};
+ghost use Rattle.probe_access.specs.Never.{NeverLost};
 ghost use Rattle.debug_model.specs.Kept.{CanCall, Keeps};
 ghost use Rattle.probe_run.specs.Told.{Fails, OnChip, told};
 ghost use Rattle.probe_access.specs.Faults.{access_why};
@@ -27,6 +28,7 @@ fn dcsr_at_once<D: Dmi>(link: &mut D) -> Result<Option<u64>, AccessFault>
     ensures asked { IfOk result (λ answer. DcsrAsked answer (told (D.seen link.old)) (told (D.seen link.new))) }
     ensures failed { IfErr result (Fails DcsrAskFailed (D.seen link.old) (D.seen link.new)) }
     ensures rises { Within 7 (D.seen link.old) (D.seen link.new) }
+    ensures never { IfErr result (NeverLost (D.seen link.old)) }
     ensures keeps { Keeps access_why (D.seen link.old) (D.seen link.new) result }
 {
     let operations = [
@@ -58,6 +60,7 @@ pub fn read_dcsr<D: Dmi>(link: &mut D, halted: &Halted) -> Result<u64, AccessFau
     ensures cut { IfErr result (IfCut (Leaves (LeftAside Unchanged halted.now.number) (D.seen link.old).far (D.seen link.new).far)) }
     ensures serving { OnOk result (Serving halted.now.number (D.seen link.new).far) }
     ensures rises { Within 15 (D.seen link.old) (D.seen link.new) }
+    ensures never { IfErr result (NeverLost (D.seen link.old)) }
     ensures keeps { Keeps access_why (D.seen link.old) (D.seen link.new) result }
 {
     let _halted = halted;

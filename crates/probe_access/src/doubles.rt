@@ -3,7 +3,7 @@ ghost use Rattle.probe_access.specs.Faults.{Among, BrokeIn};
 ghost use Rattle.probe_access.specs.RegisterRuns.{DoubleRead, DoubleReads};
 ghost use Rattle.debug_model.specs.Commands.{high_half, low_half};
 ghost use Rattle.probe_access.specs.RegisterAccess.{joined};
-ghost use Rattle.debug_model.specs.Rises.{Within};
+ghost use Rattle.debug_model.specs.Rises.{FailsByWire, Within};
 ghost use Rattle.debug_model.specs.Kept.{CanCall, Keeps};
 ghost use Rattle.probe_run.specs.Told.{Breaks, told};
 
@@ -37,6 +37,7 @@ pub fn read_double<D: Dmi>(link: &mut D) -> Result<u64, DmiFault>
     ensures read { IfOk result (λ value. DoubleRead value (told (D.seen link.old)) (told (D.seen link.new))) }
     ensures broke { IfErr result (Breaks (BrokeIn (Among DoubleReads)) (D.seen link.old) (D.seen link.new)) }
     ensures rises { Within 2 (D.seen link.old) (D.seen link.new) }
+    ensures never { IfErr result (FailsByWire (D.seen link.old)) }
     ensures keeps { Keeps Some (D.seen link.old) (D.seen link.new) result }
 {
     let mut words = ArrayVec::new();

@@ -7,6 +7,7 @@ ghost use Rattle.probe_access.specs.ElementRuns.{HandFailed, HandedBy, RunFailed
 ghost use Rattle.probe_access.specs.RegisterAccess.{next_command, next_word};
 ghost use Rattle.probe_access.specs.RegisterRuns.{RanTo, no_error};
 ghost use Rattle.debug_model.specs.Rises.{Within};
+ghost use Rattle.probe_access.specs.Never.{NeverLost};
 ghost use Rattle.debug_model.specs.Kept.{CanCall, Keeps};
 ghost use Rattle.probe_run.specs.Told.{Fails, told};
 ghost use Rattle.probe_access.specs.Faults.{access_why};
@@ -50,6 +51,7 @@ fn run_first<D: Dmi>(link: &mut D, instruction: u32, size: Size) -> Result<u32, 
     ensures ran { IfOk result (λ last. RanCommand (block_program instruction size) next_word last (told (D.seen link.old)) (told (D.seen link.new))) }
     ensures failed { IfErr result (Fails (CommandFailed (block_program instruction size) next_word) (D.seen link.old) (D.seen link.new)) }
     ensures rises { Within 9 (D.seen link.old) (D.seen link.new) }
+    ensures never { IfErr result (NeverLost (D.seen link.old)) }
     ensures keeps { Keeps access_why (D.seen link.old) (D.seen link.new) result }
 {
     let operations = [
@@ -76,6 +78,7 @@ fn first_element<D: Dmi>(
     ensures ran { OnOk result (RanTo (block_program instruction size) next_word no_error (told (D.seen link.old)) (told (D.seen link.new))) }
     ensures failed { IfErr result (Fails (RunFailed (block_program instruction size) at) (D.seen link.old) (D.seen link.new)) }
     ensures rises { Within 9 (D.seen link.old) (D.seen link.new) }
+    ensures never { IfErr result (NeverLost (D.seen link.old)) }
     ensures keeps { Keeps access_why (D.seen link.old) (D.seen link.new) result }
 {
     let last = run_first(link, instruction, size)?;
@@ -98,6 +101,7 @@ pub fn start_block<D: Dmi>(
     ensures started { OnOk result (Started instruction size address (told (D.seen link.old)) (told (D.seen link.new))) }
     ensures failed { IfErr result (Fails (StartFailed instruction size address) (D.seen link.old) (D.seen link.new)) }
     ensures rises { Within 17 (D.seen link.old) (D.seen link.new) }
+    ensures never { IfErr result (NeverLost (D.seen link.old)) }
     ensures keeps { Keeps access_why (D.seen link.old) (D.seen link.new) result }
 {
     write_register(link, X8, address)?;
@@ -111,6 +115,7 @@ pub fn next_element<D: Dmi>(link: &mut D, at: u64) -> Result<(), AccessFault>
     ensures ran { OnOk result (RanTo [] next_word no_error (told (D.seen link.old)) (told (D.seen link.new))) }
     ensures failed { IfErr result (Fails (RunFailed [] at) (D.seen link.old) (D.seen link.new)) }
     ensures rises { Within 6 (D.seen link.old) (D.seen link.new) }
+    ensures never { IfErr result (NeverLost (D.seen link.old)) }
     ensures keeps { Keeps access_why (D.seen link.old) (D.seen link.new) result }
 {
     let last = run_command(link, next_command())?;
@@ -128,6 +133,7 @@ pub fn hand_next<D: Dmi>(link: &mut D) -> Result<Handed, AccessFault>
     ensures handed { IfOk result (λ handed. HandedBy handed.refused handed.value (told (D.seen link.old)) (told (D.seen link.new))) }
     ensures failed { IfErr result (Fails HandFailed (D.seen link.old) (D.seen link.new)) }
     ensures rises { Within 8 (D.seen link.old) (D.seen link.new) }
+    ensures never { IfErr result (NeverLost (D.seen link.old)) }
     ensures keeps { Keeps access_why (D.seen link.old) (D.seen link.new) result }
 {
     let last = run_command(link, next_command())?;

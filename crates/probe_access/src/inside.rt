@@ -1,6 +1,7 @@
 ghost use Rattle.std.specs.Prelude.{◌≡◌, ◌≤◌, ◌<◌, ◌^◌, IfErr, OnOk};
 ghost use Rattle.probe_access.specs.MemoryRuns.{StoreFailedInside, StoredInside};
 ghost use Rattle.debug_model.specs.Rises.{Within};
+ghost use Rattle.probe_access.specs.Never.{NeverLost};
 ghost use Rattle.debug_model.specs.Kept.{CanCall, Keeps};
 ghost use Rattle.probe_run.specs.Told.{Fails, told};
 ghost use Rattle.probe_access.specs.Faults.{access_why};
@@ -23,6 +24,7 @@ pub fn store_inside<D: Dmi>(
     ensures stored { OnOk result (StoredInside size address value (told (D.seen link.old)) (told (D.seen link.new))) }
     ensures failed { IfErr result (Fails (StoreFailedInside size address value) (D.seen link.old) (D.seen link.new)) }
     ensures rises { Within 18 (D.seen link.old) (D.seen link.new) }
+    ensures never { IfErr result (NeverLost (D.seen link.old)) }
     ensures keeps { Keeps access_why (D.seen link.old) (D.seen link.new) result }
 {
     write_register(link, X9, value)?;

@@ -5,6 +5,7 @@
 ghost use Rattle.std.specs.Prelude.{◌≡◌, ◌≤◌, ◌<◌, ◌+◌, ◌*◌, ◌^◌, ◌++◌, ◌∷◌, [], true, length, take, drop, None, IfErr, IfOk, IfSome, OnOk};
 ghost use Rattle.rv_model.specs.Size.{count_of};
 ghost use Rattle.debug_model.specs.Rises.{Within};
+ghost use Rattle.probe_access.specs.Never.{NeverLost};
 ghost use Rattle.debug_model.specs.Addresses.{abstractauto_address};
 ghost use Rattle.debug_model.specs.Command.{all_addresses, most_elements};
 ghost use Rattle.debug_model.specs.Kept.{CanCall, Keeps};
@@ -112,6 +113,7 @@ fn ask_loads<D: Dmi>(
     ensures count { OnOk result (length words.new.items ≡ run.more * (run.looks + own_words (is_wide size)) + 3) }
     ensures failed { IfErr result (Fails (LoadsAsking (is_wide size) run.looks run.more) (D.seen link.old) (D.seen link.new)) }
     ensures rises { Within (run.more * (run.looks + own_words (is_wide size)) + 7) (D.seen link.old) (D.seen link.new) }
+    ensures never { IfErr result (NeverLost (D.seen link.old)) }
     ensures keeps { Keeps access_why (D.seen link.old) (D.seen link.new) result }
 {
     let mut operations = [DmiOp::Read(Abstractcs::ADDRESS); OPERATIONS_MOST];
@@ -137,6 +139,7 @@ fn run_loads<D: Dmi>(
     ensures count { OnOk result (length words.new.items ≡ run.more * (run.looks + own_words (is_wide size)) + 3) }
     ensures failed { IfErr result (Fails (AskLoadsFailed (is_wide size) run.looks run.more) (D.seen link.old) (D.seen link.new)) }
     ensures rises { Within (run.more * (run.looks + own_words (is_wide size)) + 8) (D.seen link.old) (D.seen link.new) }
+    ensures never { IfErr result (NeverLost (D.seen link.old)) }
     ensures keeps { Keeps access_why (D.seen link.old) (D.seen link.new) result }
 {
     let last = ask_loads(link, size, run, words)?;
@@ -204,6 +207,7 @@ fn load_run<D: Dmi>(
     ensures most { OnOk result (length into.new.items + 1 < count) }
     ensures failed { IfErr result (Fails (HandingFailed size address count into.old.items into.new.items) (D.seen link.old) (D.seen link.new)) }
     ensures rises { Within (run.more * (run.looks + own_words (is_wide size)) + 18) (D.seen link.old) (D.seen link.new) }
+    ensures never { IfErr result (NeverLost (D.seen link.old)) }
     ensures keeps { Keeps access_why (D.seen link.old) (D.seen link.new) result }
 {
     let handed = into.len() as u16;
@@ -255,6 +259,7 @@ pub fn load_front<D: Dmi>(
     ensures most { OnOk result (length into.new.items < count) }
     ensures failed { IfErr result (Fails (LoadsFailed size address count into.new.items) (D.seen link.old) (D.seen link.new)) }
     ensures rises { Within (74 * count) (D.seen link.old) (D.seen link.new) }
+    ensures never { IfErr result (NeverLost (D.seen link.old)) }
     ensures keeps { Keeps access_why (D.seen link.old) (D.seen link.new) result }
 {
     start_block(link, element_load_of(size), size, address)?;

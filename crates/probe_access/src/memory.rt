@@ -5,6 +5,7 @@ ghost use Rattle.probe_access.specs.BusRuns.{cut_to};
 ghost use Rattle.probe_access.specs.Cuts.{AccessLeftOff, IfCut, Leaves, LoadLeaves, Scratched, StoreLeaves};
 ghost use Rattle.probe_access.specs.MemoryRuns.{Around, AroundFailed, LoadRun, LoadRunFailed, StoreFailedInside, StoredInside, TakeFailed, Taken};
 ghost use Rattle.debug_model.specs.Rises.{Within};
+ghost use Rattle.probe_access.specs.Never.{NeverLost};
 ghost use Rattle.debug_model.specs.Kept.{CanCall, Keeps};
 ghost use Rattle.probe_run.specs.Told.{Fails, OnChip, told};
 ghost use Rattle.probe_access.specs.Faults.{access_why};
@@ -26,6 +27,7 @@ fn take_loaded<D: Dmi>(link: &mut D, x8: u64) -> Result<u64, AccessFault>
     ensures taken { IfOk result (λ value. Taken x8 value (told (D.seen link.old)) (told (D.seen link.new))) }
     ensures failed { IfErr result (Fails (TakeFailed x8) (D.seen link.old) (D.seen link.new)) }
     ensures rises { Within 35 (D.seen link.old) (D.seen link.new) }
+    ensures never { IfErr result (NeverLost (D.seen link.old)) }
     ensures keeps { Keeps access_why (D.seen link.old) (D.seen link.new) result }
 {
     match swap_at_once(link, X8, x8)? {
@@ -49,6 +51,7 @@ pub(crate) fn load_around<D: Dmi>(
     ensures loaded { IfOk result (λ value. LoadRun size address value (told (D.seen link.old)) (told (D.seen link.new))) }
     ensures failed { IfErr result (Fails (LoadRunFailed size address) (D.seen link.old) (D.seen link.new)) }
     ensures rises { Within 61 (D.seen link.old) (D.seen link.new) }
+    ensures never { IfErr result (NeverLost (D.seen link.old)) }
     ensures keeps { Keeps access_why (D.seen link.old) (D.seen link.new) result }
 {
     let x8 = read_register(link, X8)?;
@@ -80,6 +83,7 @@ pub(crate) fn store_around<D: Dmi>(
     ensures failed { IfErr result
         (Fails (AroundFailed (StoredInside size address value) (StoreFailedInside size address value)) (D.seen link.old) (D.seen link.new)) }
     ensures rises { Within 66 (D.seen link.old) (D.seen link.new) }
+    ensures never { IfErr result (NeverLost (D.seen link.old)) }
     ensures keeps { Keeps access_why (D.seen link.old) (D.seen link.new) result }
 {
     let scratch = save_scratch(link)?;
@@ -130,6 +134,7 @@ pub fn load<D: Dmi>(
     ensures serving { OnOk result (Serving halted.now.number (D.seen link.new).far) }
     ensures serving_still { IfErr result (IfMemory (Serving halted.now.number (D.seen link.new).far)) }
     ensures rises { Within 61 (D.seen link.old) (D.seen link.new) }
+    ensures never { IfErr result (NeverLost (D.seen link.old)) }
     ensures keeps { Keeps access_why (D.seen link.old) (D.seen link.new) result }
 {
     let _halted = halted;
@@ -159,6 +164,7 @@ pub fn store<D: Dmi>(
     ensures serving { OnOk result (Serving halted.now.number (D.seen link.new).far) }
     ensures serving_still { IfErr result (IfMemory (Serving halted.now.number (D.seen link.new).far)) }
     ensures rises { Within 66 (D.seen link.old) (D.seen link.new) }
+    ensures never { IfErr result (NeverLost (D.seen link.old)) }
     ensures keeps { Keeps access_why (D.seen link.old) (D.seen link.new) result }
 {
     let _halted = halted;

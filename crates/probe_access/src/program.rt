@@ -3,6 +3,7 @@ ghost use Rattle.probe_access.specs.CommandRuns.{CommandFailed, RanCommand};
 ghost use Rattle.probe_access.specs.MemoryRuns.{PerformFailed, Performed, program_set};
 ghost use Rattle.probe_access.specs.RegisterAccess.{advance_word, element_load_word, load_word, program_word, store_word};
 ghost use Rattle.debug_model.specs.Rises.{Within};
+ghost use Rattle.probe_access.specs.Never.{NeverLost};
 ghost use Rattle.debug_model.specs.Kept.{CanCall, Keeps};
 ghost use Rattle.probe_run.specs.Told.{Fails, told};
 ghost use Rattle.probe_access.specs.Faults.{access_why};
@@ -117,6 +118,7 @@ fn run_program<D: Dmi>(link: &mut D, instruction: u32, address: u64) -> Result<u
     ensures ran { IfOk result (λ last. RanCommand (program_set instruction address) program_word last (told (D.seen link.old)) (told (D.seen link.new))) }
     ensures failed { IfErr result (Fails (CommandFailed (program_set instruction address) program_word) (D.seen link.old) (D.seen link.new)) }
     ensures rises { Within 10 (D.seen link.old) (D.seen link.new) }
+    ensures never { IfErr result (NeverLost (D.seen link.old)) }
     ensures keeps { Keeps access_why (D.seen link.old) (D.seen link.new) result }
 {
     let operations = [
@@ -139,6 +141,7 @@ pub fn perform<D: Dmi>(link: &mut D, instruction: u32, address: u64) -> Result<(
     ensures performed { OnOk result (Performed instruction address 0 (told (D.seen link.old)) (told (D.seen link.new))) }
     ensures failed { IfErr result (Fails (PerformFailed instruction address) (D.seen link.old) (D.seen link.new)) }
     ensures rises { Within 10 (D.seen link.old) (D.seen link.new) }
+    ensures never { IfErr result (NeverLost (D.seen link.old)) }
     ensures keeps { Keeps access_why (D.seen link.old) (D.seen link.new) result }
 {
     let last = run_program(link, instruction, address)?;

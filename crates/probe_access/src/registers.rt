@@ -5,6 +5,7 @@ ghost use Rattle.probe_access.specs.Pending.{GetFailed, PendingReadAt, RegisterC
 ghost use Rattle.probe_access.specs.RegisterRuns.{ReadApart, ReadApartFailed, ReadFailed, RegisterRead, RegisterWritten, WriteFailed};
 ghost use Rattle.probe_access.specs.Registers.{RegisterReadAt, IfRegister, RegisterLeft, RegisterWrittenAt};
 ghost use Rattle.debug_model.specs.Rises.{Within};
+ghost use Rattle.probe_access.specs.Never.{NeverLost};
 ghost use Rattle.debug_model.specs.Kept.{CanCall, Keeps};
 ghost use Rattle.probe_run.specs.Told.{Fails, OnChip, told};
 ghost use Rattle.probe_access.specs.Faults.{access_why};
@@ -29,6 +30,7 @@ fn pending<D: Dmi>(link: &mut D, halted: &Halted) -> Result<u64, AccessFault>
     ensures serving { OnOk result (Serving halted.now.number (D.seen link.new).far) }
     ensures serving_still { IfErr result (IfRegister (Serving halted.now.number (D.seen link.new).far)) }
     ensures rises { Within 8 (D.seen link.old) (D.seen link.new) }
+    ensures never { IfErr result (NeverLost (D.seen link.old)) }
     ensures keeps { Keeps access_why (D.seen link.old) (D.seen link.new) result }
 {
     let _halted = halted;
@@ -50,6 +52,7 @@ pub fn held_reg<D: Dmi>(link: &mut D, halted: &Halted, register: u16) -> Result<
     ensures serving { OnOk result (Serving halted.now.number (D.seen link.new).far) }
     ensures serving_still { IfErr result (IfRegister (Serving halted.now.number (D.seen link.new).far)) }
     ensures rises { Within 16 (D.seen link.old) (D.seen link.new) }
+    ensures never { IfErr result (NeverLost (D.seen link.old)) }
     ensures keeps { Keeps access_why (D.seen link.old) (D.seen link.new) result }
 {
     let _halted = halted;
@@ -72,6 +75,7 @@ pub fn reg<D: Dmi>(link: &mut D, halted: &Halted, register: u16) -> Result<u64, 
     ensures serving { OnOk result (Serving halted.now.number (D.seen link.new).far) }
     ensures serving_still { IfErr result (IfRegister (Serving halted.now.number (D.seen link.new).far)) }
     ensures rises { Within 16 (D.seen link.old) (D.seen link.new) }
+    ensures never { IfErr result (NeverLost (D.seen link.old)) }
     ensures keeps { Keeps access_why (D.seen link.old) (D.seen link.new) result }
 {
     if register == register_number::MIP {
@@ -98,6 +102,7 @@ pub fn set_reg<D: Dmi>(
     ensures serving { OnOk result (Serving halted.now.number (D.seen link.new).far) }
     ensures serving_still { IfErr result (IfRegister (Serving halted.now.number (D.seen link.new).far)) }
     ensures rises { Within 8 (D.seen link.old) (D.seen link.new) }
+    ensures never { IfErr result (NeverLost (D.seen link.old)) }
     ensures keeps { Keeps access_why (D.seen link.old) (D.seen link.new) result }
 {
     let _halted = halted;

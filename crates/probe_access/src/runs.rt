@@ -4,6 +4,7 @@
 ghost use Rattle.std.specs.Prelude.{◌≡◌, ◌≢◌, ◌⊎◌, ◌≤◌, ◌<◌, ◌+◌, ◌*◌, ◌^◌, ◌++◌, ◌∷◌, [], length, take, None, IfErr, IfOk, IfSome};
 ghost use Rattle.rv_model.specs.Size.{count_of};
 ghost use Rattle.debug_model.specs.Rises.{Within};
+ghost use Rattle.probe_access.specs.Never.{NeverLost};
 ghost use Rattle.debug_model.specs.Addresses.{abstractauto_address};
 ghost use Rattle.debug_model.specs.Command.{all_addresses, most_elements};
 ghost use Rattle.debug_model.specs.Kept.{CanCall, Keeps};
@@ -103,6 +104,7 @@ fn ask_elements<D: Dmi>(link: &mut D, run: Run) -> Result<u32, AccessFault>
     ensures asked { IfOk result (λ last. AskedOnce run.more last (told (D.seen link.old)) (told (D.seen link.new))) }
     ensures failed { IfErr result (Fails (AskingFailed run.looks run.more) (D.seen link.old) (D.seen link.new)) }
     ensures rises { Within (run.more * (run.looks + 1) + 7) (D.seen link.old) (D.seen link.new) }
+    ensures never { IfErr result (NeverLost (D.seen link.old)) }
     ensures keeps { Keeps access_why (D.seen link.old) (D.seen link.new) result }
 {
     let mut operations = [DmiOp::Read(Abstractcs::ADDRESS); OPERATIONS_MOST];
@@ -120,6 +122,7 @@ fn run_elements<D: Dmi>(link: &mut D, run: Run) -> Result<u32, AccessFault>
     ensures asked { IfOk result (λ last. Asked run.more last (told (D.seen link.old)) (told (D.seen link.new))) }
     ensures failed { IfErr result (Fails (AskedFailed run.looks run.more) (D.seen link.old) (D.seen link.new)) }
     ensures rises { Within (run.more * (run.looks + 1) + 8) (D.seen link.old) (D.seen link.new) }
+    ensures never { IfErr result (NeverLost (D.seen link.old)) }
     ensures keeps { Keeps access_why (D.seen link.old) (D.seen link.new) result }
 {
     let last = ask_elements(link, run)?;
@@ -185,6 +188,7 @@ fn run_at<D: Dmi>(
     ensures fell { IfErr result (Fails (RunFell size address done run.more) (D.seen link.old) (D.seen link.new)) }
     ensures whole { IfOk result (λ found. found ≡ None → Within (run.more * (run.looks + 1) + 8) (D.seen link.old) (D.seen link.new)) }
     ensures rises { Within (run.more * (run.looks + 1) + 24) (D.seen link.old) (D.seen link.new) }
+    ensures never { IfErr result (NeverLost (D.seen link.old)) }
     ensures keeps { Keeps access_why (D.seen link.old) (D.seen link.new) result }
 {
     let last = run_elements(link, run)?;
@@ -235,6 +239,7 @@ pub fn store_front<D: Dmi>(
     ensures most { IfOk result (λ done. done ≤ count) }
     ensures failed { IfErr result (Fails (StoresFailed size address value count) (D.seen link.old) (D.seen link.new)) }
     ensures rises { Within (57 * count + 256) (D.seen link.old) (D.seen link.new) }
+    ensures never { IfErr result (NeverLost (D.seen link.old)) }
     ensures keeps { Keeps access_why (D.seen link.old) (D.seen link.new) result }
 {
     write_register(link, X9, value)?;

@@ -3,6 +3,7 @@ ghost use Rattle.probe_access.specs.Cuts.{IfCut, LeftAside, Leaves, MaybePutBack
 ghost use Rattle.probe_access.specs.Scratches.{PutBackAt, SavedAt, ScratchLeft};
 ghost use Rattle.probe_access.specs.MemoryRuns.{GaveUp, Loses, PutBack, PutBackFailed, SaveFailed, Saved};
 ghost use Rattle.debug_model.specs.Rises.{Within};
+ghost use Rattle.probe_access.specs.Never.{NeverLost};
 ghost use Rattle.debug_model.specs.Kept.{CanCall, Keeps};
 ghost use Rattle.probe_run.specs.Told.{Fails, OnChip, told};
 ghost use Rattle.probe_access.specs.Faults.{access_why};
@@ -28,6 +29,7 @@ pub(crate) fn save_scratch<D: Dmi>(link: &mut D) -> Result<Scratch, AccessFault>
     ensures saved { IfOk result (λ scratch. Saved scratch.x8 scratch.x9 (told (D.seen link.old)) (told (D.seen link.new))) }
     ensures failed { IfErr result (Fails SaveFailed (D.seen link.old) (D.seen link.new)) }
     ensures rises { Within 32 (D.seen link.old) (D.seen link.new) }
+    ensures never { IfErr result (NeverLost (D.seen link.old)) }
     ensures keeps { Keeps access_why (D.seen link.old) (D.seen link.new) result }
 {
     let x8 = read_register(link, X8)?;
@@ -43,6 +45,7 @@ impl Scratch {
         ensures put_back { OnOk result (PutBack self.x8 self.x9 (told (D.seen link.old)) (told (D.seen link.new))) }
         ensures failed { IfErr result (Fails (PutBackFailed self.x8 self.x9) (D.seen link.old) (D.seen link.new)) }
         ensures rises { Within 16 (D.seen link.old) (D.seen link.new) }
+        ensures never { IfErr result (NeverLost (D.seen link.old)) }
         ensures keeps { Keeps access_why (D.seen link.old) (D.seen link.new) result }
     {
         let Scratch { x8, x9 } = self;
@@ -62,6 +65,7 @@ impl Scratch {
         ensures cut { IfErr result (IfCut (Leaves (LeftAside (MaybePutBack self.x8 self.x9) halted.now.number) (D.seen link.old).far (D.seen link.new).far)) }
         ensures serving { OnOk result (Serving halted.now.number (D.seen link.new).far) }
         ensures rises { Within 16 (D.seen link.old) (D.seen link.new) }
+        ensures never { IfErr result (NeverLost (D.seen link.old)) }
         ensures keeps { Keeps access_why (D.seen link.old) (D.seen link.new) result }
     {
         let _halted = halted;
@@ -86,6 +90,7 @@ impl Scratch {
             (told (D.seen link.new)) fault result }
         ensures behind { StandsUnless (D.seen link.new) (access_why result) }
         ensures rises { Within 16 (D.seen link.old) (D.seen link.new) }
+        ensures never { NeverLost (D.seen link.old) fault → NeverLost (D.seen link.old) result }
         ensures later { (D.seen link.old).fault_count ≤ (D.seen link.new).fault_count }
         ensures fixed { (D.seen link.new).fixed ≡ (D.seen link.old).fixed }
     {
@@ -114,6 +119,7 @@ pub fn save<D: Dmi>(link: &mut D, halted: &Halted) -> Result<Scratch, AccessFaul
     ensures cut { IfErr result (IfCut (Leaves (LeftAside Unchanged halted.now.number) (D.seen link.old).far (D.seen link.new).far)) }
     ensures serving { OnOk result (Serving halted.now.number (D.seen link.new).far) }
     ensures rises { Within 32 (D.seen link.old) (D.seen link.new) }
+    ensures never { IfErr result (NeverLost (D.seen link.old)) }
     ensures keeps { Keeps access_why (D.seen link.old) (D.seen link.new) result }
 {
     let _halted = halted;

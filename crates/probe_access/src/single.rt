@@ -5,6 +5,7 @@ ghost use Rattle.probe_access.specs.Scratches.{ScratchLeft};
 ghost use Rattle.probe_access.specs.SingleSteps.{FlaggedAt, KeepsEbreakm, ReadsDcsr, StepLeft, SteppedAt};
 ghost use Rattle.probe_access.specs.StepRuns.{ClearFailed, FlagCleared, FlagFailed, FlagWritten, StepFailed, StepFromFailed, SteppedFrom, SteppedOnce, with_flag};
 ghost use Rattle.debug_model.specs.Rises.{Within};
+ghost use Rattle.probe_access.specs.Never.{NeverLost};
 ghost use Rattle.debug_model.specs.Kept.{CanCall, Keeps};
 ghost use Rattle.probe_run.specs.Told.{Fails, OnChip, told};
 ghost use Rattle.probe_access.specs.Faults.{access_why};
@@ -42,6 +43,7 @@ fn set_flag<D: Dmi>(link: &mut D, halted: &Halted, word: u64, on: bool) -> Resul
     ensures cut { IfErr result (IfCut (Leaves (LeftAside (MaybeFlagged on) halted.now.number) (D.seen link.old).far (D.seen link.new).far)) }
     ensures serving { OnOk result (Serving halted.now.number (D.seen link.new).far) }
     ensures rises { Within 8 (D.seen link.old) (D.seen link.new) }
+    ensures never { IfErr result (NeverLost (D.seen link.old)) }
     ensures keeps { Keeps access_why (D.seen link.old) (D.seen link.new) result }
 {
     let value = flagged(word, on);
@@ -62,6 +64,7 @@ fn clear_flag<D: Dmi>(link: &mut D, halted: &Halted) -> Result<(), AccessFault>
     ensures cut { IfErr result (IfCut (Leaves (LeftAside (MaybeFlagged false) halted.now.number) (D.seen link.old).far (D.seen link.new).far)) }
     ensures serving { OnOk result (Serving halted.now.number (D.seen link.new).far) }
     ensures rises { Within 23 (D.seen link.old) (D.seen link.new) }
+    ensures never { IfErr result (NeverLost (D.seen link.old)) }
     ensures keeps { Keeps access_why (D.seen link.old) (D.seen link.new) result }
 {
     let word = read_dcsr(link, halted)?;
@@ -85,6 +88,7 @@ pub fn step_from<D: Dmi>(link: &mut D, halted: Halted, word: u64) -> Result<Halt
     ensures cut { IfErr result (IfCut (Leaves (StepCut halted.number) (D.seen link.old).far (D.seen link.new).far)) }
     ensures serving { OnOk result (Serving halted.number (D.seen link.new).far) }
     ensures rises { Within 34 (D.seen link.old) (D.seen link.new) }
+    ensures never { IfErr result (NeverLost (D.seen link.old)) }
     ensures keeps { Keeps access_why (D.seen link.old) (D.seen link.new) result }
 {
     set_flag(link, &halted, word, true)?;
@@ -108,6 +112,7 @@ pub fn step<D: Dmi>(link: &mut D, halted: Halted) -> Result<Halted, AccessFault>
     ensures cut { IfErr result (IfCut (Leaves (StepCut halted.number) (D.seen link.old).far (D.seen link.new).far)) }
     ensures serving { OnOk result (Serving halted.number (D.seen link.new).far) }
     ensures rises { Within 49 (D.seen link.old) (D.seen link.new) }
+    ensures never { IfErr result (NeverLost (D.seen link.old)) }
     ensures keeps { Keeps access_why (D.seen link.old) (D.seen link.new) result }
 {
     let word = read_dcsr(link, &halted)?;

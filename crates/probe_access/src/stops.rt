@@ -4,6 +4,7 @@ ghost use Rattle.probe_access.specs.Cuts.{IfCut, LeftAside, Leaves, Unchanged};
 ghost use Rattle.probe_access.specs.Scratches.{ScratchLeft};
 ghost use Rattle.probe_access.specs.Stops.{StopApart, StopApartFailed, StopAskFailed, StopAsked, StopFailed, StopRead, StoppedAt};
 ghost use Rattle.debug_model.specs.Rises.{Within};
+ghost use Rattle.probe_access.specs.Never.{NeverLost};
 ghost use Rattle.debug_model.specs.Kept.{CanCall, Keeps};
 ghost use Rattle.probe_run.specs.Told.{Fails, OnChip, told};
 ghost use Rattle.probe_access.specs.Faults.{access_why};
@@ -40,6 +41,7 @@ fn stop_at_once<D: Dmi>(link: &mut D) -> Result<Option<Stop>, AccessFault>
     ensures asked { IfOk result (λ answer. StopAsked answer (told (D.seen link.old)) (told (D.seen link.new))) }
     ensures failed { IfErr result (Fails StopAskFailed (D.seen link.old) (D.seen link.new)) }
     ensures rises { Within 10 (D.seen link.old) (D.seen link.new) }
+    ensures never { IfErr result (NeverLost (D.seen link.old)) }
     ensures keeps { Keeps access_why (D.seen link.old) (D.seen link.new) result }
 {
     let dpc = transfer_of(register_number::DPC, false).word();
@@ -68,6 +70,7 @@ fn stop_apart<D: Dmi>(link: &mut D) -> Result<Stop, AccessFault>
     ensures read { IfOk result (λ stop. StopApart stop.pc stop.cause (told (D.seen link.old)) (told (D.seen link.new))) }
     ensures failed { IfErr result (Fails StopApartFailed (D.seen link.old) (D.seen link.new)) }
     ensures rises { Within 16 (D.seen link.old) (D.seen link.new) }
+    ensures never { IfErr result (NeverLost (D.seen link.old)) }
     ensures keeps { Keeps access_why (D.seen link.old) (D.seen link.new) result }
 {
     let pc = read_apart(link, register_number::DPC)?;
@@ -87,6 +90,7 @@ pub fn stop<D: Dmi>(link: &mut D, halted: &Halted) -> Result<Stop, AccessFault>
     ensures cut { IfErr result (IfCut (Leaves (LeftAside Unchanged halted.now.number) (D.seen link.old).far (D.seen link.new).far)) }
     ensures serving { OnOk result (Serving halted.now.number (D.seen link.new).far) }
     ensures rises { Within 26 (D.seen link.old) (D.seen link.new) }
+    ensures never { IfErr result (NeverLost (D.seen link.old)) }
     ensures keeps { Keeps access_why (D.seen link.old) (D.seen link.new) result }
 {
     let _halted = halted;

@@ -2,6 +2,7 @@ ghost use Rattle.std.specs.Prelude.{◌≡◌, ◌≤◌, ◌<◌, ◌^◌, ◌�
 ghost use Rattle.probe_access.specs.RegisterRuns.{AskFailed, AskedAtOnce, ReadApart, ReadApartFailed, ReadFailed};
 ghost use Rattle.probe_access.specs.RegisterRuns.{RegisterRead, RegisterWritten, SwapFailed, Swapped, WriteFailed};
 ghost use Rattle.debug_model.specs.Rises.{Within};
+ghost use Rattle.probe_access.specs.Never.{NeverLost};
 ghost use Rattle.debug_model.specs.Kept.{CanCall, Keeps};
 ghost use Rattle.probe_run.specs.Told.{Fails, told};
 ghost use Rattle.probe_access.specs.Faults.{access_why};
@@ -25,6 +26,7 @@ fn read_at_once<D: Dmi>(link: &mut D, register: u16) -> Result<Option<u64>, Acce
     ensures asked { IfOk result (λ answer. AskedAtOnce register answer (told (D.seen link.old)) (told (D.seen link.new))) }
     ensures failed { IfErr result (Fails (AskFailed register) (D.seen link.old) (D.seen link.new)) }
     ensures rises { Within 8 (D.seen link.old) (D.seen link.new) }
+    ensures never { IfErr result (NeverLost (D.seen link.old)) }
     ensures keeps { Keeps access_why (D.seen link.old) (D.seen link.new) result }
 {
     let operations = [
@@ -52,6 +54,7 @@ pub fn read_apart<D: Dmi>(link: &mut D, register: u16) -> Result<u64, AccessFaul
     ensures read { IfOk result (λ value. ReadApart register value (told (D.seen link.old)) (told (D.seen link.new))) }
     ensures failed { IfErr result (Fails (ReadApartFailed register) (D.seen link.old) (D.seen link.new)) }
     ensures rises { Within 8 (D.seen link.old) (D.seen link.new) }
+    ensures never { IfErr result (NeverLost (D.seen link.old)) }
     ensures keeps { Keeps access_why (D.seen link.old) (D.seen link.new) result }
 {
     let last = run_command(link, transfer_of(register, false))?;
@@ -72,6 +75,7 @@ pub fn read_register<D: Dmi>(link: &mut D, register: u16) -> Result<u64, AccessF
     ensures read { IfOk result (λ value. RegisterRead register value (told (D.seen link.old)) (told (D.seen link.new))) }
     ensures failed { IfErr result (Fails (ReadFailed register) (D.seen link.old) (D.seen link.new)) }
     ensures rises { Within 16 (D.seen link.old) (D.seen link.new) }
+    ensures never { IfErr result (NeverLost (D.seen link.old)) }
     ensures keeps { Keeps access_why (D.seen link.old) (D.seen link.new) result }
 {
     match read_at_once(link, register)? {
@@ -96,6 +100,7 @@ pub fn swap_at_once<D: Dmi>(
     ensures swapped { IfOk result (λ answer. Swapped register value answer (told (D.seen link.old)) (told (D.seen link.new))) }
     ensures failed { IfErr result (Fails (SwapFailed register value) (D.seen link.old) (D.seen link.new)) }
     ensures rises { Within 11 (D.seen link.old) (D.seen link.new) }
+    ensures never { IfErr result (NeverLost (D.seen link.old)) }
     ensures keeps { Keeps access_why (D.seen link.old) (D.seen link.new) result }
 {
     let reads = transfer_of(register, false).word();
@@ -124,6 +129,7 @@ pub fn write_register<D: Dmi>(link: &mut D, register: u16, value: u64) -> Result
     ensures written { OnOk result (RegisterWritten register value (told (D.seen link.old)) (told (D.seen link.new))) }
     ensures failed { IfErr result (Fails (WriteFailed register value) (D.seen link.old) (D.seen link.new)) }
     ensures rises { Within 8 (D.seen link.old) (D.seen link.new) }
+    ensures never { IfErr result (NeverLost (D.seen link.old)) }
     ensures keeps { Keeps access_why (D.seen link.old) (D.seen link.new) result }
 {
     let last = run_with(link, value, transfer_of(register, true))?;

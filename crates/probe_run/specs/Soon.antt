@@ -4,10 +4,12 @@ use Rattle.std.specs.Prelude.{◌≡◌, ◌⊎◌, ◌++◌, ◌≤◌, ℕ, Li
 use Rattle.rv_model.specs.Board.{Hart}
 use Rattle.debug_model.specs.Kept.{DmiSeen}
 use Rattle.debug_model.specs.Pacing.{Paced}
-use Rattle.debug_model.specs.Rises.{Within}
+use Rattle.debug_model.specs.Rises.{FailsByWire, Within}
 use Rattle.debug_model.specs.Told.{Far, chip_of, site_of}
 use Rattle.abstract_debugger.specs.Debugger.{Seen as Sight, most_looks}
 use Rattle.probe_run.specs.declared.control.Request.{Request}
+use Rattle.probe_run.specs.declared.fault.ConnectFault.{ConnectFault}
+use Rattle.probe_run.specs.declared.fault.ConnectFault.TheVariants as connect
 use Rattle.probe_run.specs.declared.fault.RunFault.{RunFault}
 use Rattle.probe_run.specs.declared.fault.RunFault.TheVariants.{Dmi, NoHalt, NoAck}
 use Rattle.probe_run.specs.declared.wait.Waited.{Waited}
@@ -38,11 +40,19 @@ abbrev pub WaitedInVain : Request → (Sight → Bool) → ℕ → DmiSeen → W
 WaitedInVain request test h old waited.Shown = Unit {0}
 WaitedInVain request test h old (waited.Unshown acknowledged) = (looks : ℕ) → 1 ≤ looks → looks ≤ most_looks → VainLooks looks request test h (told old)
 
--- no wait is in vain
+-- no wait is in vain, and where an operation failed it was by the wire
 abbrev pub NeverInVain : DmiSeen → RunFault → Type 0
-NeverInVain old (Dmi why) = Unit {0}
+NeverInVain old (Dmi why) = FailsByWire old why
 NeverInVain old (NoHalt looks) = Unpaced old
 NeverInVain old (NoAck looks) = Unpaced old
+
+-- where an operation of an opening failed it was by the wire; a register that is not as it must be is no wait
+abbrev pub OpeningByWire : DmiSeen → ConnectFault → Type 0
+OpeningByWire old (connect.Dtm word) = Unit {0}
+OpeningByWire old (connect.Module word is_activation) = Unit {0}
+OpeningByWire old (connect.Abstract word) = Unit {0}
+OpeningByWire old (connect.Bus word) = Unit {0}
+OpeningByWire old (connect.Dmi why) = FailsByWire old why
 
 -- the step flag of hart h is set, where it is told
 abbrev pub StepSet : ℕ → Option Far → Type 0

@@ -6,7 +6,7 @@ ghost use Rattle.probe_run.specs.Looks.{look_act};
 ghost use Rattle.probe_run.specs.Outcomes.{FirstBroke, asks};
 ghost use Rattle.probe_run.specs.Requests.{control_word};
 ghost use Rattle.debug_model.specs.Kept.{CanCall, Keeps};
-ghost use Rattle.debug_model.specs.Rises.{Within};
+ghost use Rattle.debug_model.specs.Rises.{FailsByWire, Within};
 ghost use Rattle.probe_run.specs.Told.{Breaks, told};
 
 use arrayvec::ArrayVec;
@@ -44,6 +44,7 @@ pub fn control<D: Dmi>(link: &mut D, hart: u16, request: Request) -> Result<(), 
     ensures broke { IfErr result (Breaks (Broke [] (Attempt.Operation (Write dmcontrol_address (control_word request hart)))) (D.seen link.old)
         (D.seen link.new)) }
     ensures rises { Within 1 (D.seen link.old) (D.seen link.new) }
+    ensures never { IfErr result (FailsByWire (D.seen link.old)) }
     ensures keeps { Keeps Some (D.seen link.old) (D.seen link.new) result }
 {
     link.write(Dmcontrol::ADDRESS, word_for(hart, request))?;
@@ -56,6 +57,7 @@ pub fn control_and_look<D: Dmi>(link: &mut D, hart: u16, request: Request) -> Re
     ensures did { IfOk result (λ word. Did (told (D.seen link.old)) (asks request hart ++ look_act word ∷ []) (told (D.seen link.new))) }
     ensures broke { IfErr result (Breaks (FirstBroke request hart) (D.seen link.old) (D.seen link.new)) }
     ensures rises { Within 2 (D.seen link.old) (D.seen link.new) }
+    ensures never { IfErr result (FailsByWire (D.seen link.old)) }
     ensures keeps { Keeps Some (D.seen link.old) (D.seen link.new) result }
 {
     let mut words = ArrayVec::new();

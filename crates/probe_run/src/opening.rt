@@ -7,6 +7,7 @@ ghost use Rattle.probe_run.specs.Opening.{ConnectFails, IsOfRelease, LosesLoaded
 ghost use Rattle.probe_run.specs.Opening.{TransportFails, TransportFits, bus_fits, clears_cmderr, clears_sberror, commands_fit, is_active, release_of, starts_none, transport_fits};
 ghost use Rattle.debug_model.specs.Kept.{CanCall, Keeps};
 ghost use Rattle.debug_model.specs.Rises.{Within};
+ghost use Rattle.probe_run.specs.Soon.{OpeningByWire};
 ghost use Rattle.debug_model.specs.Scan.{WhereTold};
 ghost use Rattle.probe_run.specs.Told.{Fails, told};
 ghost use Rattle.probe_run.specs.Opening.{opening_why};
@@ -118,6 +119,7 @@ fn check_transport<D: Dmi>(link: &mut D) -> Result<(), ConnectFault>
     ensures did { OnOk result (TransportFits (told (D.seen link.old)) (told (D.seen link.new))) }
     ensures fails { IfErr result (Fails TransportFails (D.seen link.old) (D.seen link.new)) }
     ensures rises { Within 1 (D.seen link.old) (D.seen link.new) }
+    ensures never { IfErr result (OpeningByWire (D.seen link.old)) }
     ensures keeps { Keeps opening_why (D.seen link.old) (D.seen link.new) result }
 {
     let word = link.dtmcs()?;
@@ -133,6 +135,7 @@ fn activate<D: Dmi>(link: &mut D) -> Result<(), ConnectFault>
     ensures did { OnOk result (Activated (told (D.seen link.old)) (told (D.seen link.new))) }
     ensures fails { IfErr result (Fails ActivationFails (D.seen link.old) (D.seen link.new)) }
     ensures rises { Within 65 (D.seen link.old) (D.seen link.new) }
+    ensures never { IfErr result (OpeningByWire (D.seen link.old)) }
     ensures keeps { Keeps opening_why (D.seen link.old) (D.seen link.new) result }
 {
     let mut words = ArrayVec::new();
@@ -159,6 +162,7 @@ fn check_module<D: Dmi>(link: &mut D) -> Result<Version, ConnectFault>
     ensures did { IfOk result (λ version. ModuleShows version (told (D.seen link.old)) (told (D.seen link.new))) }
     ensures fails { IfErr result (Fails ModuleFails (D.seen link.old) (D.seen link.new)) }
     ensures rises { Within 1 (D.seen link.old) (D.seen link.new) }
+    ensures never { IfErr result (OpeningByWire (D.seen link.old)) }
     ensures keeps { Keeps opening_why (D.seen link.old) (D.seen link.new) result }
 {
     let word = look(link)?;
@@ -174,6 +178,7 @@ fn check_commands<D: Dmi>(link: &mut D) -> Result<(), ConnectFault>
     ensures did { OnOk result (CommandsFit (told (D.seen link.old)) (told (D.seen link.new))) }
     ensures fails { IfErr result (Fails CommandsFail (D.seen link.old) (D.seen link.new)) }
     ensures rises { Within 1 (D.seen link.old) (D.seen link.new) }
+    ensures never { IfErr result (OpeningByWire (D.seen link.old)) }
     ensures keeps { Keeps opening_why (D.seen link.old) (D.seen link.new) result }
 {
     let word = link.read(Abstractcs::ADDRESS)?;
@@ -190,6 +195,7 @@ fn check_bus<D: Dmi>(link: &mut D) -> Result<(), ConnectFault>
     ensures did { OnOk result (Then BusFits BusCleared (told (D.seen link.old)) (told (D.seen link.new))) }
     ensures fails { IfErr result (Fails BusFails (D.seen link.old) (D.seen link.new)) }
     ensures rises { Within 4 (D.seen link.old) (D.seen link.new) }
+    ensures never { IfErr result (OpeningByWire (D.seen link.old)) }
     ensures keeps { Keeps opening_why (D.seen link.old) (D.seen link.new) result }
 {
     let mut words = ArrayVec::new();
@@ -223,6 +229,7 @@ pub fn connect<D: Dmi>(link: &mut D) -> Result<Target, ConnectFault>
     ensures selects { OnOk result (IsAsLoaded (D.seen link.old).far → Selects 0 (D.seen link.new).far) }
     ensures lost { IfErr result (LosesLoaded (D.seen link.old).far (D.seen link.new).far) }
     ensures rises { Within 72 (D.seen link.old) (D.seen link.new) }
+    ensures never { IfErr result (OpeningByWire (D.seen link.old)) }
     ensures keeps { Keeps opening_why (D.seen link.old) (D.seen link.new) result }
 {
     check_transport(link)?;

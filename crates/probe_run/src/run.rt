@@ -6,7 +6,7 @@ ghost use Rattle.probe_run.specs.Happens.{Exists, HaltLeft, HaltsAt, Leaves, Res
 ghost use Rattle.probe_run.specs.Looks.{test_of};
 ghost use Rattle.probe_run.specs.Outcomes.{AskedAs, HaltFails, HaltedBy, ResumeFails, ResumedBy, RunBroke, StepFails, SteppedBy};
 ghost use Rattle.debug_model.specs.Kept.{CanCall, Keeps};
-ghost use Rattle.debug_model.specs.Rises.{Within};
+ghost use Rattle.debug_model.specs.Rises.{FailsByWire, Within};
 ghost use Rattle.probe_run.specs.Soon.{NeverInVain, StepSet, WaitedInVain, WithinLooks};
 ghost use Rattle.probe_run.specs.Told.{Breaks, Fails, OnChip, told};
 ghost use Rattle.probe_run.specs.Outcomes.{run_why};
@@ -28,6 +28,7 @@ fn ask<D: Dmi>(
     ensures asked { IfOk result (AskedAs request hart wanted (told (D.seen link.old)) (told (D.seen link.new))) }
     ensures broke { IfErr result (Breaks (RunBroke request (test_of wanted) hart) (D.seen link.old) (D.seen link.new)) }
     ensures rises { Within 65 (D.seen link.old) (D.seen link.new) }
+    ensures never { IfErr result (FailsByWire (D.seen link.old)) }
     ensures soon { WithinLooks request (test_of wanted) hart (D.seen link.old) (D.seen link.new) }
     ensures vain { IfOk result (WaitedInVain request (test_of wanted) hart (D.seen link.old)) }
     ensures keeps { Keeps Some (D.seen link.old) (D.seen link.new) result }

@@ -5,6 +5,7 @@ ghost use Rattle.probe_run.specs.Outcomes.{IsSeen, LookAgainFails, LookFails, Lo
 ghost use Rattle.probe_run.specs.Looks.{seen_in};
 ghost use Rattle.debug_model.specs.Kept.{CanCall, Keeps};
 ghost use Rattle.debug_model.specs.Rises.{Within};
+ghost use Rattle.probe_run.specs.Soon.{NeverInVain};
 ghost use Rattle.probe_run.specs.Told.{Fails, OnChip, told};
 ghost use Rattle.probe_run.specs.Outcomes.{run_why};
 
@@ -65,6 +66,7 @@ impl Target {
         ensures seen { IfOk result (IsAsSeen (D.seen link.new).far) }
         ensures version { IfOk result (SeenAs self.now.version) }
         ensures rises { Within 2 (D.seen link.old) (D.seen link.new) }
+        ensures never { IfErr result (NeverInVain (D.seen link.old)) }
         ensures keeps { Keeps run_why (D.seen link.old) (D.seen link.new) result }
     {
         let word = control_and_look(link, hart, Request::Nothing)?;
@@ -86,6 +88,7 @@ impl Target {
         ensures seen { IfOk result (IsAsSeen (D.seen link.new).far) }
         ensures version { IfOk result (SeenAs self.now.version) }
         ensures rises { Within 1 (D.seen link.old) (D.seen link.new) }
+        ensures never { IfErr result (NeverInVain (D.seen link.old)) }
         ensures keeps { Keeps run_why (D.seen link.old) (D.seen link.new) result }
     {
         let word = wait::look(link)?;

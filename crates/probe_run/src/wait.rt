@@ -3,7 +3,7 @@ ghost use Rattle.probe_run.specs.Acts.{Did};
 ghost use Rattle.probe_run.specs.Looks.{look_act, seen_in_status, test_of};
 ghost use Rattle.probe_run.specs.Waits.{LookBroke};
 ghost use Rattle.debug_model.specs.Kept.{CanCall, Keeps};
-ghost use Rattle.debug_model.specs.Rises.{Within};
+ghost use Rattle.debug_model.specs.Rises.{FailsByWire, Within};
 ghost use Rattle.probe_run.specs.Told.{Breaks, told};
 
 use debug_model::{Dmi, DmiFault, Dmstatus};
@@ -56,6 +56,7 @@ pub fn look<D: Dmi>(link: &mut D) -> Result<u32, DmiFault>
     ensures did { IfOk result (λ word. Did (told (D.seen link.old)) (look_act word ∷ []) (told (D.seen link.new))) }
     ensures broke { IfErr result (Breaks (LookBroke []) (D.seen link.old) (D.seen link.new)) }
     ensures rises { Within 1 (D.seen link.old) (D.seen link.new) }
+    ensures never { IfErr result (FailsByWire (D.seen link.old)) }
     ensures keeps { Keeps Some (D.seen link.old) (D.seen link.new) result }
 {
     let word = link.read(Dmstatus::ADDRESS)?;

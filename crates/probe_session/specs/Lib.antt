@@ -25,3 +25,4 @@ pub mod Scripts
 pub mod Causes
 pub mod Transcribed
 pub mod UnderWay
+pub mod Never

@@ -9,6 +9,7 @@ ghost use Rattle.probe_session.specs.Known.{Knows, KnowsAfter};
 ghost use Rattle.probe_session.specs.Links.{Attached, Goes};
 ghost use Rattle.probe_run.specs.Told.{told};
 ghost use Rattle.debug_model.specs.Rises.{Within};
+ghost use Rattle.probe_session.specs.Never.{ActsInTime, NeverGivesUp};
 ghost use Rattle.probe_session.specs.Budget.{command_rises};
 
 use crate::acted::Acted;
@@ -38,6 +39,8 @@ impl Session {
             (K.fault_count out.new) (K.contents out.old) (K.contents out.new)) }
         ensures knows { OnOk result (Knows self.new.known self.new.hart (D.seen link.new).far) }
         ensures rises { Within (command_rises command) (D.seen link.old) (D.seen link.new) }
+        ensures never { IfErr result (NeverGivesUp (D.seen link.old)) }
+        ensures in_time { IfOk result (ActsInTime (D.seen link.old)) }
         ensures keeps { Goes AttachedAfter (D.seen link.old) (D.seen link.new) result }
         ensures sink_later { K.fault_count out.old ≤ K.fault_count out.new }
     {
@@ -63,6 +66,7 @@ impl Session {
         ensures serving { AttachedAfter result (D.seen link.new) }
         ensures knows { KnowsAfter result self.new (D.seen link.new).far }
         ensures rises { Within (command_rises command.now) (D.seen link.old) (D.seen link.new) }
+        ensures never { ActsInTime (D.seen link.old) result }
         ensures later { (D.seen link.old).fault_count ≤ (D.seen link.new).fault_count }
         ensures fixed { (D.seen link.new).fixed ≡ (D.seen link.old).fixed }
         ensures sink_later { K.fault_count out.old ≤ K.fault_count out.new }

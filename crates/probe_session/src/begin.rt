@@ -11,6 +11,7 @@ ghost use Rattle.probe_session.specs.declared.known.Known.TheVariants as known;
 ghost use Rattle.debug_model.specs.Kept.{CanCall, Keeps};
 ghost use Rattle.probe_run.specs.Told.{told, Fails};
 ghost use Rattle.debug_model.specs.Rises.{Within};
+ghost use Rattle.probe_run.specs.Soon.{OpeningByWire};
 
 use crate::known::Known;
 use crate::session::Session;
@@ -31,6 +32,7 @@ impl Session {
         ensures serving { OnOk result (IsAsLoaded (D.seen link.old).far → Attached (D.seen link.new)) }
         ensures lost { IfErr result (LosesLoaded (D.seen link.old).far (D.seen link.new).far) }
         ensures rises { Within 72 (D.seen link.old) (D.seen link.new) }
+        ensures never { IfErr result (OpeningByWire (D.seen link.old)) }
         ensures keeps { Keeps opening_why (D.seen link.old) (D.seen link.new) result }
     {
         match connect(link) {

@@ -21,6 +21,7 @@ ghost use Rattle.probe_session.specs.Showing.{BytePut, RowCut, at_dump, byte_row
 ghost use Rattle.probe_session.specs.Shown.{AttachedShown, IsOfBlock, at_shown};
 ghost use Rattle.probe_run.specs.Told.{told, Fails, OnChip};
 ghost use Rattle.debug_model.specs.Rises.{Within};
+ghost use Rattle.probe_session.specs.Never.{NeverGivesUp};
 ghost use Rattle.probe_access.specs.BlockRises.{load_rises};
 ghost use Rattle.probe_session.specs.Budget.{rises_of_shown};
 
@@ -102,6 +103,7 @@ pub(crate) fn put_rows<D: Dmi, K: Sink>(
         (K.fault_count out.new) (K.contents out.old) (K.contents out.new)) }
     ensures selection { OnOk result (OnChip SelectionStays (D.seen link.old) (D.seen link.new)) }
     ensures rises { Within (load_rises count) (D.seen link.old) (D.seen link.new) }
+    ensures never { IfErr result (NeverGivesUp (D.seen link.old)) }
     ensures keeps { Goes (λ _. Attached) (D.seen link.old) (D.seen link.new) result }
     ensures sink_later { K.fault_count out.old ≤ K.fault_count out.new }
 {
@@ -132,6 +134,7 @@ impl Session {
         ensures falls { IfErr result (Fails (Falls (before (command.Dump address count) (state_of self.now)) []) (D.seen link.old) (D.seen link.new)) }
         ensures knows { OnOk result (Knows (known_by self.now.path self.now.known) self.now.hart (D.seen link.new).far) }
         ensures rises { Within 2 (D.seen link.old) (D.seen link.new) }
+        ensures never { IfErr result (NeverGivesUp (D.seen link.old)) }
         ensures few { IfOk result (λ shown. rises_of_shown shown ≤ load_rises count) }
         ensures keeps { Goes AttachedShown (D.seen link.old) (D.seen link.new) result }
         ensures block { IfOk result IsOfBlock }

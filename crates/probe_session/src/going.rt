@@ -17,6 +17,7 @@ ghost use Rattle.probe_session.specs.Said.{said_by};
 ghost use Rattle.probe_session.specs.Steps.{any_in};
 ghost use Rattle.probe_run.specs.Told.{told, Fails};
 ghost use Rattle.debug_model.specs.Rises.{Within};
+ghost use Rattle.probe_session.specs.Never.{NeverGivesUp};
 
 use crate::fault::Failure;
 use crate::hart_lines::stop_line;
@@ -36,6 +37,7 @@ fn is_behind_step<D: Dmi>(link: &mut D, halted: &Halted, known: Known) -> Result
     ensures seen { IfOk result (StepSeen halted.now.number (told (D.seen link.old)) (told (D.seen link.new))) }
     ensures fell { IfErr result (Fails (ReadFell halted.now.number dcsr_number) (D.seen link.old) (D.seen link.new)) }
     ensures rises { Within 16 (D.seen link.old) (D.seen link.new) }
+    ensures never { IfErr result (NeverGivesUp (D.seen link.old)) }
     ensures keeps { Goes (λ _. AttachedHalted halted.now.number) (D.seen link.old) (D.seen link.new) result }
 {
     if known.is_stepped() {
@@ -53,6 +55,7 @@ pub fn step_once<D: Dmi>(link: &mut D, halted: Halted, known: Known) -> Result<H
     ensures falls { IfErr result (Fails (Falls (at_one halted.number) []) (D.seen link.old) (D.seen link.new)) }
     ensures hart { IfOk result (λ again. again.number ≡ halted.number) }
     ensures rises { Within 385 (D.seen link.old) (D.seen link.new) }
+    ensures never { IfErr result (NeverGivesUp (D.seen link.old)) }
     ensures keeps { Goes (λ _. AttachedHalted halted.number) (D.seen link.old) (D.seen link.new) result }
 {
     if known.is_stepped() {
@@ -74,6 +77,7 @@ fn more_steps_line<D: Dmi>(link: &mut D, halted: Halted, more: u16) -> Result<Li
     ensures falls { IfErr result (Fails (Falls (behind_first more halted.number) []) (D.seen link.old) (D.seen link.new)) }
     ensures whole { IfOk result (λ line. says_step line ≡ true → StandsStepped halted.number (D.seen link.new).far) }
     ensures rises { Within (50 * more + 210) (D.seen link.old) (D.seen link.new) }
+    ensures never { IfErr result (NeverGivesUp (D.seen link.old)) }
     ensures keeps { Goes (λ _. AttachedAt halted.number) (D.seen link.old) (D.seen link.new) result }
 {
     let mut now = halted;
@@ -101,6 +105,7 @@ pub(crate) fn stepped_line<D: Dmi>(
     ensures falls { IfErr result (Fails (Falls (λ next. still halted.number (stepped count halted.number next)) []) (D.seen link.old) (D.seen link.new)) }
     ensures whole { IfOk result (λ line. says_step line ≡ true → StandsStepped halted.number (D.seen link.new).far) }
     ensures rises { Within (50 * count + 545) (D.seen link.old) (D.seen link.new) }
+    ensures never { IfErr result (NeverGivesUp (D.seen link.old)) }
     ensures keeps { Goes (λ _. AttachedAt halted.number) (D.seen link.old) (D.seen link.new) result }
 {
     if count == 0 {
@@ -125,6 +130,7 @@ pub fn free_line<D: Dmi>(link: &mut D, halted: Halted) -> Result<Line, Failure>
         (ends_with (said_by line)) [] (told (D.seen link.old)) (told (D.seen link.new))) }
     ensures falls { IfErr result (Fails (Falls (λ next. ready halted.number (going halted.number (say Resumed next))) []) (D.seen link.old) (D.seen link.new)) }
     ensures rises { Within 2 (D.seen link.old) (D.seen link.new) }
+    ensures never { IfErr result (NeverGivesUp (D.seen link.old)) }
     ensures keeps { Goes (λ _. AttachedAt halted.number) (D.seen link.old) (D.seen link.new) result }
 {
     halted.resume(link)?;
@@ -139,6 +145,7 @@ fn let_go_over_line<D: Dmi>(link: &mut D, halted: Halted) -> Result<Line, Failur
         (told (D.seen link.new))) }
     ensures falls { IfErr result (Fails (Falls (at_letting_go halted.number) []) (D.seen link.old) (D.seen link.new)) }
     ensures rises { Within 779 (D.seen link.old) (D.seen link.new) }
+    ensures never { IfErr result (NeverGivesUp (D.seen link.old)) }
     ensures keeps { Goes (λ _. AttachedAt halted.number) (D.seen link.old) (D.seen link.new) result }
 {
     let seen = slots(link, &halted)?;
@@ -165,6 +172,7 @@ pub(crate) fn let_go_line<D: Dmi>(
         (told (D.seen link.new))) }
     ensures falls { IfErr result (Fails (Falls (at_letting_go halted.number) []) (D.seen link.old) (D.seen link.new)) }
     ensures rises { Within 795 (D.seen link.old) (D.seen link.new) }
+    ensures never { IfErr result (NeverGivesUp (D.seen link.old)) }
     ensures keeps { Goes (λ _. AttachedAt halted.number) (D.seen link.old) (D.seen link.new) result }
 {
     if is_behind_step(link, &halted, known)? {

@@ -14,6 +14,7 @@ ghost use Rattle.probe_session.specs.Steps.{with_ebreakm};
 ghost use Rattle.probe_trig.specs.SlotRegisters.{CanArm};
 ghost use Rattle.probe_run.specs.Told.{told, Fails};
 ghost use Rattle.debug_model.specs.Rises.{Within};
+ghost use Rattle.probe_session.specs.Never.{NeverGivesUp};
 
 use crate::fault::Failure;
 use crate::registers::{pending_or_none, reg, reg_or_none, set_reg_if_taken};
@@ -33,6 +34,7 @@ pub fn stop_line<D: Dmi>(link: &mut D, halted: &Halted) -> Result<Line, Failure>
     ensures falls { IfErr result (Fails (Falls (at_stop_line halted.now.number) []) (D.seen link.old) (D.seen link.new)) }
     ensures whole { IfOk result (λ line. says_step line ≡ true → StandsStepped halted.now.number (D.seen link.new).far) }
     ensures rises { Within 210 (D.seen link.old) (D.seen link.new) }
+    ensures never { IfErr result (NeverGivesUp (D.seen link.old)) }
     ensures keeps { Goes (λ _. AttachedAt halted.now.number) (D.seen link.old) (D.seen link.new) result }
 {
     let at = stop(link, halted)?;
@@ -59,6 +61,7 @@ fn pending_line<D: Dmi>(link: &mut D, halted: &Halted) -> Result<Line, Failure>
         (told (D.seen link.new))) }
     ensures falls { IfErr result (Fails (Falls (at_register halted.now.number mip_number) []) (D.seen link.old) (D.seen link.new)) }
     ensures rises { Within 16 (D.seen link.old) (D.seen link.new) }
+    ensures never { IfErr result (NeverGivesUp (D.seen link.old)) }
     ensures keeps { Goes (λ _. AttachedAt halted.now.number) (D.seen link.old) (D.seen link.new) result }
 {
     match pending_or_none(link, halted)? {
@@ -77,6 +80,7 @@ fn held_line<D: Dmi>(link: &mut D, halted: &Halted, number: u16) -> Result<Line,
         (told (D.seen link.new))) }
     ensures falls { IfErr result (Fails (Falls (at_register halted.now.number number) []) (D.seen link.old) (D.seen link.new)) }
     ensures rises { Within 16 (D.seen link.old) (D.seen link.new) }
+    ensures never { IfErr result (NeverGivesUp (D.seen link.old)) }
     ensures keeps { Goes (λ _. AttachedAt halted.now.number) (D.seen link.old) (D.seen link.new) result }
 {
     match reg_or_none(link, halted, number)? {
@@ -98,6 +102,7 @@ pub(crate) fn register_line<D: Dmi>(
         (told (D.seen link.new))) }
     ensures falls { IfErr result (Fails (Falls (at_register halted.now.number number) []) (D.seen link.old) (D.seen link.new)) }
     ensures rises { Within 16 (D.seen link.old) (D.seen link.new) }
+    ensures never { IfErr result (NeverGivesUp (D.seen link.old)) }
     ensures keeps { Goes (λ _. AttachedAt halted.now.number) (D.seen link.old) (D.seen link.new) result }
 {
     if number == register_number::MIP {
@@ -119,6 +124,7 @@ pub(crate) fn written_register_line<D: Dmi>(
         (told (D.seen link.old)) (told (D.seen link.new))) }
     ensures falls { IfErr result (Fails (Falls (at_written_register halted.now.number number value) []) (D.seen link.old) (D.seen link.new)) }
     ensures rises { Within 176 (D.seen link.old) (D.seen link.new) }
+    ensures never { IfErr result (NeverGivesUp (D.seen link.old)) }
     ensures keeps { Goes (λ _. AttachedAt halted.now.number) (D.seen link.old) (D.seen link.new) result }
 {
     if !set_reg_if_taken(link, halted, number, value)? {
@@ -154,6 +160,7 @@ pub(crate) fn ebreak_line<D: Dmi>(
         (told (D.seen link.new))) }
     ensures falls { IfErr result (Fails (Falls (at_ebreak halted.now.number is_on) []) (D.seen link.old) (D.seen link.new)) }
     ensures rises { Within 24 (D.seen link.old) (D.seen link.new) }
+    ensures never { IfErr result (NeverGivesUp (D.seen link.old)) }
     ensures keeps { Goes (λ _. AttachedAt halted.now.number) (D.seen link.old) (D.seen link.new) result }
 {
     let word = reg(link, halted, register_number::DCSR)?;
@@ -179,6 +186,7 @@ pub(crate) fn armed_line<D: Dmi>(
         (told (D.seen link.new))) }
     ensures falls { IfErr result (Fails (Falls (at_arming halted.now.number (what_of what)) []) (D.seen link.old) (D.seen link.new)) }
     ensures rises { Within 152 (D.seen link.old) (D.seen link.new) }
+    ensures never { IfErr result (NeverGivesUp (D.seen link.old)) }
     ensures keeps { Goes (λ _. AttachedAt halted.now.number) (D.seen link.old) (D.seen link.new) result }
 {
     match arm(link, halted, what)? {
@@ -196,6 +204,7 @@ pub(crate) fn freed_line<D: Dmi>(link: &mut D, halted: &Halted, slot: u8) -> Res
         (told (D.seen link.new))) }
     ensures falls { IfErr result (Fails (Falls (at_freeing halted.now.number slot) []) (D.seen link.old) (D.seen link.new)) }
     ensures rises { Within 56 (D.seen link.old) (D.seen link.new) }
+    ensures never { IfErr result (NeverGivesUp (D.seen link.old)) }
     ensures keeps { Goes (λ _. AttachedAt halted.now.number) (D.seen link.old) (D.seen link.new) result }
 {
     if disarm(link, halted, slot)? {

@@ -8,6 +8,7 @@ ghost use Rattle.probe_session.specs.Links.{Attached, Goes, SelectionStays};
 ghost use Rattle.probe_session.specs.Said.{said_by};
 ghost use Rattle.probe_run.specs.Told.{told, Fails, OnChip};
 ghost use Rattle.debug_model.specs.Rises.{Within};
+ghost use Rattle.probe_session.specs.Never.{NeverGivesUp};
 
 use crate::fault::Failure;
 use debug_model::Dmi;
@@ -21,6 +22,7 @@ pub(crate) fn idcode_line<D: Dmi>(link: &mut D) -> Result<Line, Failure>
     ensures falls { IfErr result (Fails (Falls at_idcode []) (D.seen link.old) (D.seen link.new)) }
     ensures selection { OnOk result (OnChip SelectionStays (D.seen link.old) (D.seen link.new)) }
     ensures rises { Within 1 (D.seen link.old) (D.seen link.new) }
+    ensures never { IfErr result (NeverGivesUp (D.seen link.old)) }
     ensures keeps { Goes (λ _. Attached) (D.seen link.old) (D.seen link.new) result }
 {
     let number = link.idcode()?;

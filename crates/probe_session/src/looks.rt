@@ -6,6 +6,7 @@ ghost use Rattle.probe_session.specs.Links.{Attached, AttachedAt, Goes};
 ghost use Rattle.probe_session.specs.Seen.{IsOf};
 ghost use Rattle.probe_run.specs.Told.{told, Fails};
 ghost use Rattle.debug_model.specs.Rises.{Within};
+ghost use Rattle.probe_session.specs.Never.{NeverGivesUp};
 
 use crate::fault::Failure;
 use crate::known::Known;
@@ -28,6 +29,7 @@ pub(crate) fn look<D: Dmi>(
     ensures of { IfOk result (IsOf hart) }
     ensures still { OnOk result (Knows known hart (D.seen link.new).far) }
     ensures rises { Within 2 (D.seen link.old) (D.seen link.new) }
+    ensures never { IfErr result (NeverGivesUp (D.seen link.old)) }
     ensures keeps { Goes (λ _. AttachedAt hart) (D.seen link.old) (D.seen link.new) result }
 {
     if known.is_selected() {

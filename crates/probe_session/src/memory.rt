@@ -12,6 +12,7 @@ ghost use Rattle.probe_session.specs.Links.{Attached, AttachedHalted, Goes};
 ghost use Rattle.probe_session.specs.Answers.{BlockLoadedAs, BlockStoredAs};
 ghost use Rattle.probe_run.specs.Told.{told, Fails};
 ghost use Rattle.debug_model.specs.Rises.{Within};
+ghost use Rattle.probe_session.specs.Never.{NeverGivesUp};
 ghost use Rattle.probe_access.specs.BlockRises.{bus_load_rises, bus_store_rises, load_rises, store_rises};
 
 use crate::fault::Failure;
@@ -41,6 +42,7 @@ pub(crate) fn load<D: Dmi>(
         (told (D.seen link.new))) }
     ensures fell { IfErr result (Fails (BlockLoadFell Progbuf Still halted.now.number size address count) (D.seen link.old) (D.seen link.new)) }
     ensures rises { Within (load_rises count) (D.seen link.old) (D.seen link.new) }
+    ensures never { IfErr result (NeverGivesUp (D.seen link.old)) }
     ensures keeps { Goes (λ _. AttachedHalted halted.now.number) (D.seen link.old) (D.seen link.new) result }
 {
     match probe_access::load_block(link, halted, size, address, count, into) {
@@ -69,6 +71,7 @@ pub(crate) fn store<D: Dmi>(
     ensures fell { IfErr result (Fails (BlockStoreFell Progbuf Still halted.now.number size address (replicate count value))
         (D.seen link.old) (D.seen link.new)) }
     ensures rises { Within (store_rises count) (D.seen link.old) (D.seen link.new) }
+    ensures never { IfErr result (NeverGivesUp (D.seen link.old)) }
     ensures keeps { Goes (λ _. AttachedHalted halted.now.number) (D.seen link.old) (D.seen link.new) result }
 {
     match probe_access::store_block(link, halted, size, address, count, value) {
@@ -96,6 +99,7 @@ pub(crate) fn bus_load<D: Dmi>(
         (told (D.seen link.new))) }
     ensures fell { IfErr result (Fails (BlockLoadFell Bus Idle 0 size address count) (D.seen link.old) (D.seen link.new)) }
     ensures rises { Within (bus_load_rises count) (D.seen link.old) (D.seen link.new) }
+    ensures never { IfErr result (NeverGivesUp (D.seen link.old)) }
     ensures keeps { Goes (λ _. Attached) (D.seen link.old) (D.seen link.new) result }
 {
     match probe_access::bus_load_block(link, size, address, count, into) {
@@ -121,6 +125,7 @@ pub(crate) fn bus_store<D: Dmi>(
     ensures stored { IfOk result (BlockStoredAs Bus Idle 0 size address (replicate count value) (told (D.seen link.old)) (told (D.seen link.new))) }
     ensures fell { IfErr result (Fails (BlockStoreFell Bus Idle 0 size address (replicate count value)) (D.seen link.old) (D.seen link.new)) }
     ensures rises { Within (bus_store_rises count) (D.seen link.old) (D.seen link.new) }
+    ensures never { IfErr result (NeverGivesUp (D.seen link.old)) }
     ensures keeps { Goes (λ _. Attached) (D.seen link.old) (D.seen link.new) result }
 {
     match probe_access::bus_store_block(link, size, address, count, value) {

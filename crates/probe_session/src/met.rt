@@ -6,6 +6,7 @@ ghost use Rattle.probe_session.specs.Links.{Attached, Goes};
 ghost use Rattle.probe_session.specs.Met.{MetAs, AttachedMet, SaysError, SaysNoStep, before_look};
 ghost use Rattle.probe_run.specs.Told.{told, Fails};
 ghost use Rattle.debug_model.specs.Rises.{Within};
+ghost use Rattle.probe_session.specs.Never.{NeverGivesUp};
 
 use crate::fault::Failure;
 use crate::known::Known;
@@ -35,6 +36,7 @@ pub fn meet<D: Dmi>(link: &mut D, target: &Target, hart: u16, known: Known) -> R
     ensures says { IfOk result SaysNoStep }
     ensures error { IfOk result SaysError }
     ensures rises { Within 2 (D.seen link.old) (D.seen link.new) }
+    ensures never { IfErr result (NeverGivesUp (D.seen link.old)) }
     ensures keeps { Goes AttachedMet (D.seen link.old) (D.seen link.new) result }
 {
     match look(link, target, hart, known)? {

@@ -13,6 +13,7 @@ ghost use Rattle.probe_session.specs.Links.{Attached, AttachedAt, Goes};
 ghost use Rattle.probe_session.specs.Said.{said_by};
 ghost use Rattle.probe_run.specs.Told.{told, Fails};
 ghost use Rattle.debug_model.specs.Rises.{Within};
+ghost use Rattle.probe_session.specs.Never.{NeverGivesUp};
 ghost use Rattle.probe_access.specs.BlockRises.{store_rises};
 
 use crate::fault::Failure;
@@ -40,6 +41,7 @@ impl Session {
             (told (D.seen link.old)) (told (D.seen link.new))) }
         ensures falls { IfErr result (Fails (Falls (before (command.Hart hart) (state_of self.old)) []) (D.seen link.old) (D.seen link.new)) }
         ensures rises { Within 2 (D.seen link.old) (D.seen link.new) }
+        ensures never { IfErr result (NeverGivesUp (D.seen link.old)) }
         ensures keeps { Goes (λ _. AttachedAt hart) (D.seen link.old) (D.seen link.new) result }
     {
         match look(link, &self.target, hart, Known::Nothing)? {
@@ -63,6 +65,7 @@ impl Session {
             (told (D.seen link.old)) (told (D.seen link.new))) }
         ensures falls { IfErr result (Fails (Falls (before (command.State) (state_of self.now)) []) (D.seen link.old) (D.seen link.new)) }
         ensures rises { Within 212 (D.seen link.old) (D.seen link.new) }
+        ensures never { IfErr result (NeverGivesUp (D.seen link.old)) }
         ensures keeps { Goes (λ _. AttachedAt self.now.hart) (D.seen link.old) (D.seen link.new) result }
     {
         match look(link, &self.target, self.hart, self.known)? {
@@ -80,6 +83,7 @@ impl Session {
             (told (D.seen link.old)) (told (D.seen link.new))) }
         ensures falls { IfErr result (Fails (Falls (before (command.Halt) (state_of self.now)) []) (D.seen link.old) (D.seen link.new)) }
         ensures rises { Within 215 (D.seen link.old) (D.seen link.new) }
+        ensures never { IfErr result (NeverGivesUp (D.seen link.old)) }
         ensures keeps { Goes (λ _. AttachedAt self.now.hart) (D.seen link.old) (D.seen link.new) result }
     {
         match look(link, &self.target, self.hart, self.known)? {
@@ -101,6 +105,7 @@ impl Session {
             (told (D.seen link.old)) (told (D.seen link.new))) }
         ensures falls { IfErr result (Fails (Falls (before (command.Wait looks) (state_of self.now)) []) (D.seen link.old) (D.seen link.new)) }
         ensures rises { Within (2 * looks + 210) (D.seen link.old) (D.seen link.new) }
+        ensures never { IfErr result (NeverGivesUp (D.seen link.old)) }
         ensures keeps { Goes (λ _. AttachedAt self.now.hart) (D.seen link.old) (D.seen link.new) result }
     {
         let mut known = self.known;
@@ -124,6 +129,7 @@ impl Session {
             (told (D.seen link.old)) (told (D.seen link.new))) }
         ensures falls { IfErr result (Fails (Falls (before (command.Reg name) (state_of self.now)) []) (D.seen link.old) (D.seen link.new)) }
         ensures rises { Within 18 (D.seen link.old) (D.seen link.new) }
+        ensures never { IfErr result (NeverGivesUp (D.seen link.old)) }
         ensures keeps { Goes (λ _. AttachedAt self.now.hart) (D.seen link.old) (D.seen link.new) result }
     {
         match meet(link, &self.target, self.hart, self.known)? {
@@ -147,6 +153,7 @@ impl Session {
             (told (D.seen link.old)) (told (D.seen link.new))) }
         ensures falls { IfErr result (Fails (Falls (before (command.SetReg name value) (state_of self.now)) []) (D.seen link.old) (D.seen link.new)) }
         ensures rises { Within 178 (D.seen link.old) (D.seen link.new) }
+        ensures never { IfErr result (NeverGivesUp (D.seen link.old)) }
         ensures keeps { Goes (λ _. AttachedAt self.now.hart) (D.seen link.old) (D.seen link.new) result }
     {
         match meet(link, &self.target, self.hart, self.known)? {
@@ -163,6 +170,7 @@ impl Session {
             (told (D.seen link.old)) (told (D.seen link.new))) }
         ensures falls { IfErr result (Fails (Falls (before (command.Ebreak is_on) (state_of self.now)) []) (D.seen link.old) (D.seen link.new)) }
         ensures rises { Within 26 (D.seen link.old) (D.seen link.new) }
+        ensures never { IfErr result (NeverGivesUp (D.seen link.old)) }
         ensures keeps { Goes (λ _. AttachedAt self.now.hart) (D.seen link.old) (D.seen link.new) result }
     {
         match meet(link, &self.target, self.hart, self.known)? {
@@ -179,6 +187,7 @@ impl Session {
             (told (D.seen link.old)) (told (D.seen link.new))) }
         ensures falls { IfErr result (Fails (Falls (before (command.Break address) (state_of self.now)) []) (D.seen link.old) (D.seen link.new)) }
         ensures rises { Within 154 (D.seen link.old) (D.seen link.new) }
+        ensures never { IfErr result (NeverGivesUp (D.seen link.old)) }
         ensures keeps { Goes (λ _. AttachedAt self.now.hart) (D.seen link.old) (D.seen link.new) result }
     {
         match meet(link, &self.target, self.hart, self.known)? {
@@ -201,6 +210,7 @@ impl Session {
             (told (D.seen link.old)) (told (D.seen link.new))) }
         ensures falls { IfErr result (Fails (Falls (before (command.Watch kind address) (state_of self.now)) []) (D.seen link.old) (D.seen link.new)) }
         ensures rises { Within 154 (D.seen link.old) (D.seen link.new) }
+        ensures never { IfErr result (NeverGivesUp (D.seen link.old)) }
         ensures keeps { Goes (λ _. AttachedAt self.now.hart) (D.seen link.old) (D.seen link.new) result }
     {
         match meet(link, &self.target, self.hart, self.known)? {
@@ -218,6 +228,7 @@ impl Session {
             (told (D.seen link.old)) (told (D.seen link.new))) }
         ensures falls { IfErr result (Fails (Falls (before (command.Count turns) (state_of self.now)) []) (D.seen link.old) (D.seen link.new)) }
         ensures rises { Within 154 (D.seen link.old) (D.seen link.new) }
+        ensures never { IfErr result (NeverGivesUp (D.seen link.old)) }
         ensures keeps { Goes (λ _. AttachedAt self.now.hart) (D.seen link.old) (D.seen link.new) result }
     {
         match meet(link, &self.target, self.hart, self.known)? {
@@ -235,6 +246,7 @@ impl Session {
             (told (D.seen link.old)) (told (D.seen link.new))) }
         ensures falls { IfErr result (Fails (Falls (before (command.Clear slot) (state_of self.now)) []) (D.seen link.old) (D.seen link.new)) }
         ensures rises { Within 58 (D.seen link.old) (D.seen link.new) }
+        ensures never { IfErr result (NeverGivesUp (D.seen link.old)) }
         ensures keeps { Goes (λ _. AttachedAt self.now.hart) (D.seen link.old) (D.seen link.new) result }
     {
         match meet(link, &self.target, self.hart, self.known)? {
@@ -252,6 +264,7 @@ impl Session {
         ensures falls { IfErr result (Fails (Falls (before (command.Step count) (state_of self.now)) []) (D.seen link.old) (D.seen link.new)) }
         ensures whole { IfOk result (λ line. says_step line ≡ true → StandsStepped self.now.hart (D.seen link.new).far) }
         ensures rises { Within (50 * count + 547) (D.seen link.old) (D.seen link.new) }
+        ensures never { IfErr result (NeverGivesUp (D.seen link.old)) }
         ensures keeps { Goes (λ _. AttachedAt self.now.hart) (D.seen link.old) (D.seen link.new) result }
     {
         match meet(link, &self.target, self.hart, self.known)? {
@@ -268,6 +281,7 @@ impl Session {
             (told (D.seen link.old)) (told (D.seen link.new))) }
         ensures falls { IfErr result (Fails (Falls (before (command.Resume) (state_of self.now)) []) (D.seen link.old) (D.seen link.new)) }
         ensures rises { Within 797 (D.seen link.old) (D.seen link.new) }
+        ensures never { IfErr result (NeverGivesUp (D.seen link.old)) }
         ensures keeps { Goes (λ _. AttachedAt self.now.hart) (D.seen link.old) (D.seen link.new) result }
     {
         match meet(link, &self.target, self.hart, self.known)? {
@@ -295,6 +309,7 @@ impl Session {
             (D.seen link.old) (D.seen link.new)) }
         ensures knows { OnOk result (Knows (known_by self.now.path self.now.known) self.now.hart (D.seen link.new).far) }
         ensures rises { Within (store_rises count + 2) (D.seen link.old) (D.seen link.new) }
+        ensures never { IfErr result (NeverGivesUp (D.seen link.old)) }
         ensures keeps { Goes (λ _. Attached) (D.seen link.old) (D.seen link.new) result }
     {
         match self.reach(link)? {

@@ -9,6 +9,7 @@ ghost use Rattle.probe_session.specs.Links.{Attached, Goes};
 ghost use Rattle.probe_session.specs.Shown.{AttachedUpTo, DoneUpTo, IsOfBlock};
 ghost use Rattle.probe_run.specs.Told.{told, Fails};
 ghost use Rattle.debug_model.specs.Rises.{Within};
+ghost use Rattle.probe_session.specs.Never.{NeverGivesUp};
 ghost use Rattle.probe_session.specs.Budget.{command_rises, rises_of_shown, rises_up_to};
 
 use crate::fault::Failure;
@@ -30,6 +31,7 @@ impl Session {
         ensures did { IfOk result (DoneUpTo command (state_of self.old) (state_of self.new) (told (D.seen link.old)) (told (D.seen link.new))) }
         ensures falls { IfErr result (Fails (Falls (before command (state_of self.old)) []) (D.seen link.old) (D.seen link.new)) }
         ensures rises { Within (rises_up_to command) (D.seen link.old) (D.seen link.new) }
+        ensures never { IfErr result (NeverGivesUp (D.seen link.old)) }
         ensures few { IfOk result (λ shown. IfSome shown (λ s. rises_up_to command + rises_of_shown s ≤ command_rises command)) }
         ensures keeps { Goes AttachedUpTo (D.seen link.old) (D.seen link.new) result }
         ensures knows { IfOk result (λ shown. Knows (known_behind command shown self.new.hart self.new.path self.new.known) self.new.hart

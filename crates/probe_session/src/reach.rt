@@ -14,6 +14,7 @@ ghost use Rattle.probe_session.specs.Links.{Attached, Goes, SelectionStays};
 ghost use Rattle.probe_session.specs.Reach.{ReachedAs, AttachedBy, AttachedReached, before_reach, hart_by, path_by, way_by};
 ghost use Rattle.probe_run.specs.Told.{told, Fails, OnChip};
 ghost use Rattle.debug_model.specs.Rises.{Within};
+ghost use Rattle.probe_session.specs.Never.{NeverGivesUp};
 ghost use Rattle.probe_access.specs.BlockRises.{load_rises, store_rises};
 
 use crate::fault::Failure;
@@ -53,6 +54,7 @@ impl Session {
         ensures falls { IfErr result (Fails (Falls (before_reach (state_of self.now)) []) (D.seen link.old) (D.seen link.new)) }
         ensures knows { OnOk result (Knows (known_by self.now.path self.now.known) self.now.hart (D.seen link.new).far) }
         ensures rises { Within 2 (D.seen link.old) (D.seen link.new) }
+        ensures never { IfErr result (NeverGivesUp (D.seen link.old)) }
         ensures keeps { Goes AttachedReached (D.seen link.old) (D.seen link.new) result }
     {
         match self.path {
@@ -84,6 +86,7 @@ pub fn load_by<D: Dmi>(
         (D.seen link.old) (D.seen link.new)) }
     ensures selection { OnOk result (OnChip SelectionStays (D.seen link.old) (D.seen link.new)) }
     ensures rises { Within (load_rises count) (D.seen link.old) (D.seen link.new) }
+    ensures never { IfErr result (NeverGivesUp (D.seen link.old)) }
     ensures keeps { Goes (λ _. AttachedBy reach.now) (D.seen link.old) (D.seen link.new) result }
 {
     match reach {
@@ -110,6 +113,7 @@ pub fn store_by<D: Dmi>(
         (D.seen link.old) (D.seen link.new)) }
     ensures selection { OnOk result (OnChip SelectionStays (D.seen link.old) (D.seen link.new)) }
     ensures rises { Within (store_rises count) (D.seen link.old) (D.seen link.new) }
+    ensures never { IfErr result (NeverGivesUp (D.seen link.old)) }
     ensures keeps { Goes (λ _. AttachedBy reach.now) (D.seen link.old) (D.seen link.new) result }
 {
     match reach {

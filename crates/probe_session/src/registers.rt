@@ -5,6 +5,7 @@ ghost use Rattle.probe_session.specs.Links.{AttachedHalted, Goes};
 ghost use Rattle.probe_session.specs.Answers.{PendingAs, ReadAs, WrittenAs};
 ghost use Rattle.probe_run.specs.Told.{told, Fails};
 ghost use Rattle.debug_model.specs.Rises.{Within};
+ghost use Rattle.probe_session.specs.Never.{NeverGivesUp};
 
 use crate::fault::Failure;
 use debug_model::Dmi;
@@ -24,6 +25,7 @@ pub(crate) fn reg_or_none<D: Dmi>(
         (ReadAs halted.now.number number (told (D.seen link.old)) (told (D.seen link.new))) }
     ensures fell { IfErr result (Fails (AskFell halted.now.number number) (D.seen link.old) (D.seen link.new)) }
     ensures rises { Within 16 (D.seen link.old) (D.seen link.new) }
+    ensures never { IfErr result (NeverGivesUp (D.seen link.old)) }
     ensures keeps { Goes (λ _. AttachedHalted halted.now.number) (D.seen link.old) (D.seen link.new) result }
 {
     match probe_access::held_reg(link, halted, number) {
@@ -41,6 +43,7 @@ pub(crate) fn pending_or_none<D: Dmi>(link: &mut D, halted: &Halted) -> Result<O
     ensures got { IfOk result (PendingAs halted.now.number (told (D.seen link.old)) (told (D.seen link.new))) }
     ensures fell { IfErr result (Fails (PendingFell halted.now.number) (D.seen link.old) (D.seen link.new)) }
     ensures rises { Within 16 (D.seen link.old) (D.seen link.new) }
+    ensures never { IfErr result (NeverGivesUp (D.seen link.old)) }
     ensures keeps { Goes (λ _. AttachedHalted halted.now.number) (D.seen link.old) (D.seen link.new) result }
 {
     match probe_access::reg(link, halted, register_number::MIP) {
@@ -60,6 +63,7 @@ pub fn reg<D: Dmi>(link: &mut D, halted: &Halted, number: u16) -> Result<u64, Fa
         (λ value. Got halted.now.number number value (told (D.seen link.old)) (told (D.seen link.new))) }
     ensures fell { IfErr result (Fails (ReadFell halted.now.number number) (D.seen link.old) (D.seen link.new)) }
     ensures rises { Within 16 (D.seen link.old) (D.seen link.new) }
+    ensures never { IfErr result (NeverGivesUp (D.seen link.old)) }
     ensures keeps { Goes (λ _. AttachedHalted halted.now.number) (D.seen link.old) (D.seen link.new) result }
 {
     let value = probe_access::held_reg(link, halted, number)?;
@@ -78,6 +82,7 @@ pub fn set_reg_if_taken<D: Dmi>(
         (WrittenAs halted.now.number number value (told (D.seen link.old)) (told (D.seen link.new))) }
     ensures fell { IfErr result (Fails (GiveFell halted.now.number number value) (D.seen link.old) (D.seen link.new)) }
     ensures rises { Within 8 (D.seen link.old) (D.seen link.new) }
+    ensures never { IfErr result (NeverGivesUp (D.seen link.old)) }
     ensures keeps { Goes (λ _. AttachedHalted halted.now.number) (D.seen link.old) (D.seen link.new) result }
 {
     match probe_access::set_reg(link, halted, number, value) {

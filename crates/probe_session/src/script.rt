@@ -13,6 +13,7 @@ ghost use Rattle.probe_session.specs.UnderWay.{EndedUpTo, FollowedUpTo};
 ghost use Rattle.debug_model.specs.Kept.{CanCall};
 ghost use Rattle.probe_run.specs.Told.{told};
 ghost use Rattle.debug_model.specs.Rises.{Within};
+ghost use Rattle.probe_session.specs.Never.{EndsInTime};
 ghost use Rattle.probe_session.specs.Budget.{commands_rises, script_rises};
 
 use crate::acted::Acted;
@@ -63,6 +64,7 @@ pub fn run_commands<D: Dmi, K: Sink>(
         (told (D.seen link.old)) (told (D.seen link.new)) (K.fault_count out.old)
         (K.fault_count out.new) (K.contents out.old) (K.contents out.new) result }
     ensures rises { Within (commands_rises commands.now) (D.seen link.old) (D.seen link.new) }
+    ensures never { EndsInTime (D.seen link.old).far result }
     ensures leaves { LeavesLink result (D.seen link.new) }
     ensures later { (D.seen link.old).fault_count ≤ (D.seen link.new).fault_count }
     ensures fixed { (D.seen link.new).fixed ≡ (D.seen link.old).fixed }
@@ -103,6 +105,7 @@ pub fn run_script<D: Dmi, K: Sink>(link: &mut D, script: &Script, out: &mut K) -
         (told (D.seen link.new)) (K.fault_count out.old) (K.fault_count out.new) (K.contents out.old)
         (K.contents out.new) result }
     ensures rises { Within (script_rises script.now) (D.seen link.old) (D.seen link.new) }
+    ensures never { EndsInTime (D.seen link.old).far result }
     ensures leaves { LeavesLink result (D.seen link.new) }
     ensures later { (D.seen link.old).fault_count ≤ (D.seen link.new).fault_count }
     ensures fixed { (D.seen link.new).fixed ≡ (D.seen link.old).fixed }

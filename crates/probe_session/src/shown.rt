@@ -8,6 +8,7 @@ ghost use Rattle.probe_session.specs.Places.{idle};
 ghost use Rattle.probe_session.specs.Shown.{AttachedShown, IfLine, IsOfBlock, at_lines_of};
 ghost use Rattle.probe_run.specs.Told.{told, OnChip};
 ghost use Rattle.debug_model.specs.Rises.{Within};
+ghost use Rattle.probe_session.specs.Never.{NeverGivesUp};
 ghost use Rattle.probe_session.specs.Budget.{rises_of_shown};
 
 use crate::all_registers::put_registers;
@@ -55,6 +56,7 @@ pub(crate) fn show<D: Dmi, K: Sink>(
     ensures selection { OnOk result (OnChip SelectionStays (D.seen link.old) (D.seen link.new)) }
     ensures line { OnOk result (IfLine shown ((D.seen link.new).far ≡ (D.seen link.old).far)) }
     ensures rises { Within (rises_of_shown shown) (D.seen link.old) (D.seen link.new) }
+    ensures never { IfErr result (NeverGivesUp (D.seen link.old)) }
     ensures keeps { Goes (λ _. Attached) (D.seen link.old) (D.seen link.new) result }
     ensures sink_later { K.fault_count out.old ≤ K.fault_count out.new }
 {

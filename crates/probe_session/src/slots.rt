@@ -7,6 +7,7 @@ ghost use Rattle.probe_trig.specs.Runs.{ArmsAny, FreesAny, ReadsAny};
 ghost use Rattle.probe_trig.specs.SlotRegisters.{CanArm};
 ghost use Rattle.probe_run.specs.Told.{told, Fails};
 ghost use Rattle.debug_model.specs.Rises.{Within};
+ghost use Rattle.probe_session.specs.Never.{NeverGivesUp};
 
 use crate::fault::Failure;
 use debug_model::{Dmi, SlotUse};
@@ -20,6 +21,7 @@ pub(crate) fn slots<D: Dmi>(link: &mut D, halted: &Halted) -> Result<SlotView, F
         (λ view. Viewed halted.now.number view (told (D.seen link.old)) (told (D.seen link.new))) }
     ensures fell { IfErr result (Fails (SlotsFell ReadsAny halted.now.number) (D.seen link.old) (D.seen link.new)) }
     ensures rises { Within 184 (D.seen link.old) (D.seen link.new) }
+    ensures never { IfErr result (NeverGivesUp (D.seen link.old)) }
     ensures keeps { Goes (λ _. AttachedHalted halted.now.number) (D.seen link.old) (D.seen link.new) result }
 {
     let seen = probe_trig::slots(link, halted)?;
@@ -38,6 +40,7 @@ pub(crate) fn arm<D: Dmi>(
         (TakenAs halted.now.number what (told (D.seen link.old)) (told (D.seen link.new))) }
     ensures fell { IfErr result (Fails (SlotsFell (ArmsAny what) halted.now.number) (D.seen link.old) (D.seen link.new)) }
     ensures rises { Within 152 (D.seen link.old) (D.seen link.new) }
+    ensures never { IfErr result (NeverGivesUp (D.seen link.old)) }
     ensures keeps { Goes (λ _. AttachedHalted halted.now.number) (D.seen link.old) (D.seen link.new) result }
 {
     match probe_trig::arm(link, halted, what) {
@@ -57,6 +60,7 @@ pub(crate) fn disarm<D: Dmi>(link: &mut D, halted: &Halted, slot: u8) -> Result<
         (FreedAs halted.now.number slot (told (D.seen link.old)) (told (D.seen link.new))) }
     ensures fell { IfErr result (Fails (SlotsFell (FreesAny slot) halted.now.number) (D.seen link.old) (D.seen link.new)) }
     ensures rises { Within 56 (D.seen link.old) (D.seen link.new) }
+    ensures never { IfErr result (NeverGivesUp (D.seen link.old)) }
     ensures keeps { Goes (λ _. AttachedHalted halted.now.number) (D.seen link.old) (D.seen link.new) result }
 {
     match probe_trig::disarm(link, halted, slot) {
@@ -75,6 +79,7 @@ pub(crate) fn step_over<D: Dmi>(link: &mut D, halted: Halted) -> Result<Halted, 
     ensures fell { IfErr result (Fails (StepOverFell halted.number) (D.seen link.old) (D.seen link.new)) }
     ensures hart { IfOk result (λ again. again.number ≡ halted.number) }
     ensures rises { Within 369 (D.seen link.old) (D.seen link.new) }
+    ensures never { IfErr result (NeverGivesUp (D.seen link.old)) }
     ensures keeps { Goes (λ _. AttachedHalted halted.number) (D.seen link.old) (D.seen link.new) result }
 {
     let again = probe_trig::step_over(link, halted)?;
@@ -88,6 +93,7 @@ pub(crate) fn step<D: Dmi>(link: &mut D, halted: Halted) -> Result<Halted, Failu
     ensures fell { IfErr result (Fails (StepFell halted.number) (D.seen link.old) (D.seen link.new)) }
     ensures hart { IfOk result (λ again. again.number ≡ halted.number) }
     ensures rises { Within 49 (D.seen link.old) (D.seen link.new) }
+    ensures never { IfErr result (NeverGivesUp (D.seen link.old)) }
     ensures keeps { Goes (λ _. AttachedHalted halted.number) (D.seen link.old) (D.seen link.new) result }
 {
     let again = probe_access::step(link, halted)?;
@@ -102,6 +108,7 @@ pub(crate) fn step_from<D: Dmi>(link: &mut D, halted: Halted, word: u64) -> Resu
     ensures fell { IfErr result (Fails (StepFromFell halted.number word) (D.seen link.old) (D.seen link.new)) }
     ensures hart { IfOk result (λ again. again.number ≡ halted.number) }
     ensures rises { Within 34 (D.seen link.old) (D.seen link.new) }
+    ensures never { IfErr result (NeverGivesUp (D.seen link.old)) }
     ensures keeps { Goes (λ _. AttachedHalted halted.number) (D.seen link.old) (D.seen link.new) result }
 {
     let again = probe_access::step_from(link, halted, word)?;

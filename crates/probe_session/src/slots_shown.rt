@@ -13,6 +13,7 @@ ghost use Rattle.probe_session.specs.Showing.{at_slots};
 ghost use Rattle.probe_session.specs.Shown.{AttachedShown, IsOfBlock, at_shown};
 ghost use Rattle.probe_run.specs.Told.{told, Fails, OnChip};
 ghost use Rattle.debug_model.specs.Rises.{Within};
+ghost use Rattle.probe_session.specs.Never.{NeverGivesUp};
 ghost use Rattle.probe_session.specs.Budget.{rises_of_shown};
 
 use crate::fault::Failure;
@@ -40,6 +41,7 @@ pub(crate) fn put_slots<D: Dmi, K: Sink>(
         (K.fault_count out.new) (K.contents out.old) (K.contents out.new)) }
     ensures selection { OnOk result (OnChip SelectionStays (D.seen link.old) (D.seen link.new)) }
     ensures rises { Within 184 (D.seen link.old) (D.seen link.new) }
+    ensures never { IfErr result (NeverGivesUp (D.seen link.old)) }
     ensures keeps { Goes (λ _. Attached) (D.seen link.old) (D.seen link.new) result }
     ensures sink_later { K.fault_count out.old ≤ K.fault_count out.new }
 {
@@ -61,6 +63,7 @@ impl Session {
         ensures falls { IfErr result (Fails (Falls (before command.Slots (state_of self.now)) []) (D.seen link.old) (D.seen link.new)) }
         ensures selects { OnOk result (Selects self.now.hart (D.seen link.new).far) }
         ensures rises { Within 2 (D.seen link.old) (D.seen link.new) }
+        ensures never { IfErr result (NeverGivesUp (D.seen link.old)) }
         ensures few { IfOk result (λ shown. rises_of_shown shown ≤ 184) }
         ensures keeps { Goes AttachedShown (D.seen link.old) (D.seen link.new) result }
         ensures block { IfOk result IsOfBlock }

@@ -3,6 +3,7 @@ ghost use Rattle.probe_session.specs.Calls.{FoundStop, StopFell};
 ghost use Rattle.probe_session.specs.Links.{AttachedHalted, Goes};
 ghost use Rattle.probe_run.specs.Told.{told, Fails};
 ghost use Rattle.debug_model.specs.Rises.{Within};
+ghost use Rattle.probe_session.specs.Never.{NeverGivesUp};
 
 use crate::fault::Failure;
 use debug_model::Dmi;
@@ -16,6 +17,7 @@ pub(crate) fn stop<D: Dmi>(link: &mut D, halted: &Halted) -> Result<Stop, Failur
         (told (D.seen link.new))) }
     ensures fell { IfErr result (Fails (StopFell halted.now.number) (D.seen link.old) (D.seen link.new)) }
     ensures rises { Within 26 (D.seen link.old) (D.seen link.new) }
+    ensures never { IfErr result (NeverGivesUp (D.seen link.old)) }
     ensures keeps { Goes (λ _. AttachedHalted halted.now.number) (D.seen link.old) (D.seen link.new) result }
 {
     let at = probe_access::stop(link, halted)?;

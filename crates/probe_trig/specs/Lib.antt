@@ -8,3 +8,4 @@ pub mod Stepping
 pub mod Going
 pub mod StepCuts
 pub mod StepLaws
+pub mod Never

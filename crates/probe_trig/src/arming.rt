@@ -1,5 +1,7 @@
 ghost use Rattle.std.specs.Prelude.{◌≡◌, ◌<◌, true, false, Some, None, IfOk, IfErr, OnOk};
 ghost use Rattle.debug_model.specs.Rises.{Within};
+ghost use Rattle.probe_trig.specs.Never.{SlotNeverLost};
+ghost use Rattle.probe_access.specs.Never.{NeverLost};
 ghost use Rattle.debug_model.specs.Kept.{CanCall, Keeps, Stands};
 ghost use Rattle.probe_run.specs.Told.{told, OnChip, Fails, Serving};
 ghost use Rattle.probe_access.specs.Faults.{access_why};
@@ -91,6 +93,7 @@ fn set_address<D: Dmi>(link: &mut D, halted: &Halted, what: SlotUse) -> Result<(
     ensures serving { OnOk result (Serving halted.now.number (D.seen link.new).far) }
     ensures refuses { IfErr result RefusesNoTinfo }
     ensures rises { Within 8 (D.seen link.old) (D.seen link.new) }
+    ensures never { IfErr result (NeverLost (D.seen link.old)) }
     ensures keeps { Keeps access_why (D.seen link.old) (D.seen link.new) result }
 {
     match address_of(what) {
@@ -117,6 +120,7 @@ fn arm_by<D: Dmi>(
     ensures serving { OnOk result (Serving halted.now.number (D.seen link.new).far) }
     ensures refuses { IfErr result RefusesNoTinfo }
     ensures rises { Within 16 (D.seen link.old) (D.seen link.new) }
+    ensures never { IfErr result (NeverLost (D.seen link.old)) }
     ensures keeps { Keeps access_why (D.seen link.old) (D.seen link.new) result }
 {
     set_address(link, halted, what)?;
@@ -135,6 +139,7 @@ fn arm_selected<D: Dmi>(link: &mut D, halted: &Halted, what: SlotUse) -> Result<
     ensures serving { OnOk result (Serving halted.now.number (D.seen link.new).far) }
     ensures refuses { IfErr result RefusesNoTinfo }
     ensures rises { Within 32 (D.seen link.old) (D.seen link.new) }
+    ensures never { IfErr result (NeverLost (D.seen link.old)) }
     ensures keeps { Keeps access_why (D.seen link.old) (D.seen link.new) result }
 {
     let tinfo = reg_or_none(link, halted, TriggerRegister::Tinfo)?;
@@ -151,6 +156,7 @@ fn seek_free<D: Dmi>(link: &mut D, halted: &Halted) -> Result<Option<u8>, Access
     ensures serving { OnOk result (Serving halted.now.number (D.seen link.new).far) }
     ensures refuses { IfErr result RefusesNoTinfo }
     ensures rises { Within 96 (D.seen link.old) (D.seen link.new) }
+    ensures never { IfErr result (NeverLost (D.seen link.old)) }
     ensures keeps { Keeps access_why (D.seen link.old) (D.seen link.new) result }
 {
     'seeking: for slot in 0..SLOTS {
@@ -176,6 +182,7 @@ fn arm_lowest<D: Dmi>(
     ensures serving { OnOk result (Serving halted.now.number (D.seen link.new).far) }
     ensures refuses { IfErr result RefusesNoTinfo }
     ensures rises { Within 152 (D.seen link.old) (D.seen link.new) }
+    ensures never { IfErr result (NeverLost (D.seen link.old)) }
     ensures keeps { Keeps access_why (D.seen link.old) (D.seen link.new) result }
 {
     let kept = reg(link, halted, TriggerRegister::Tselect)?;
@@ -215,6 +222,7 @@ pub fn arm<D: Dmi>(link: &mut D, halted: &Halted, what: SlotUse) -> Result<u8, T
     ensures serving { OnOk result (Serving halted.now.number (D.seen link.new).far) }
     ensures refuses { IfErr result (IfAccess RefusesNoTinfo) }
     ensures rises { Within 152 (D.seen link.old) (D.seen link.new) }
+    ensures never { IfErr result (SlotNeverLost (D.seen link.old)) }
     ensures keeps { Keeps trig_why (D.seen link.old) (D.seen link.new) result }
 {
     match arm_lowest(link, halted, what)? {

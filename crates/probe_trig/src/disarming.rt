@@ -1,5 +1,7 @@
 ghost use Rattle.std.specs.Prelude.{◌<◌, true, false, IfOk, IfErr, OnOk};
 ghost use Rattle.debug_model.specs.Rises.{Within};
+ghost use Rattle.probe_trig.specs.Never.{SlotNeverLost};
+ghost use Rattle.probe_access.specs.Never.{NeverLost};
 ghost use Rattle.debug_model.specs.Kept.{CanCall, Keeps};
 ghost use Rattle.probe_run.specs.Told.{told, OnChip, Fails, Serving};
 ghost use Rattle.probe_access.specs.Faults.{access_why};
@@ -26,6 +28,7 @@ fn free<D: Dmi>(link: &mut D, halted: &Halted, slot: u8) -> Result<bool, AccessF
     ensures failed { IfErr result (Fails (FailedIn (FreesAny slot) halted.now.number) (D.seen link.old) (D.seen link.new)) }
     ensures serving { OnOk result (Serving halted.now.number (D.seen link.new).far) }
     ensures rises { Within 56 (D.seen link.old) (D.seen link.new) }
+    ensures never { IfErr result (NeverLost (D.seen link.old)) }
     ensures keeps { Keeps access_why (D.seen link.old) (D.seen link.new) result }
 {
     let kept = reg(link, halted, TriggerRegister::Tselect)?;
@@ -56,6 +59,7 @@ pub fn disarm<D: Dmi>(link: &mut D, halted: &Halted, slot: u8) -> Result<(), Tri
     ensures serving_still { IfErr result (UnlessAccess (Serving halted.now.number (D.seen link.new).far)) }
     ensures serving { OnOk result (Serving halted.now.number (D.seen link.new).far) }
     ensures rises { Within 56 (D.seen link.old) (D.seen link.new) }
+    ensures never { IfErr result (SlotNeverLost (D.seen link.old)) }
     ensures keeps { Keeps trig_why (D.seen link.old) (D.seen link.new) result }
 {
     if free(link, halted, slot)? {

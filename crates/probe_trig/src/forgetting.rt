@@ -1,5 +1,6 @@
 ghost use Rattle.std.specs.Prelude.{IfErr, OnOk};
 ghost use Rattle.debug_model.specs.Rises.{Within};
+ghost use Rattle.probe_trig.specs.Never.{SlotNeverLost};
 ghost use Rattle.debug_model.specs.Kept.{CanCall, Keeps};
 ghost use Rattle.probe_run.specs.Told.{told, OnChip, Serving, Fails};
 ghost use Rattle.probe_access.specs.Cuts.{IfCut, LeftAside, Leaves};
@@ -27,6 +28,7 @@ pub fn forget_hits<D: Dmi>(link: &mut D, halted: &Halted) -> Result<(), TrigFaul
     ensures cut { IfErr result (IfAccess (IfCut (Leaves (LeftAside DebugAlone halted.now.number) (D.seen link.old).far (D.seen link.new).far))) }
     ensures serving { OnOk result (Serving halted.now.number (D.seen link.new).far) }
     ensures rises { Within 152 (D.seen link.old) (D.seen link.new) }
+    ensures never { IfErr result (SlotNeverLost (D.seen link.old)) }
     ensures keeps { Keeps trig_why (D.seen link.old) (D.seen link.new) result }
 {
     let _some = change_hits(link, halted, Change::Forget)?;

@@ -1,5 +1,6 @@
 ghost use Rattle.std.specs.Prelude.{◌≡◌, ◌∷◌, [], IfOk, IfErr, OnOk};
 ghost use Rattle.debug_model.specs.Rises.{Within};
+ghost use Rattle.probe_access.specs.Never.{NeverLost};
 ghost use Rattle.debug_model.specs.Kept.{CanCall, Keeps};
 ghost use Rattle.probe_run.specs.Told.{told, Fails, Serving};
 ghost use Rattle.probe_access.specs.Faults.{access_why};
@@ -58,6 +59,7 @@ pub fn reg<D: Dmi>(
     ensures serving { OnOk result (Serving halted.now.number (D.seen link.new).far) }
     ensures refuses { IfErr result (Refuses (λ number. number ≡ number_of register)) }
     ensures rises { Within 16 (D.seen link.old) (D.seen link.new) }
+    ensures never { IfErr result (NeverLost (D.seen link.old)) }
     ensures keeps { Keeps access_why (D.seen link.old) (D.seen link.new) result }
 {
     let value = probe_access::held_reg(link, halted, register.number())?;
@@ -77,6 +79,7 @@ pub fn reg_or_none<D: Dmi>(
     ensures serving { OnOk result (Serving halted.now.number (D.seen link.new).far) }
     ensures refuses { IfErr result (Refuses (λ number. ⊥)) }
     ensures rises { Within 16 (D.seen link.old) (D.seen link.new) }
+    ensures never { IfErr result (NeverLost (D.seen link.old)) }
     ensures keeps { Keeps access_why (D.seen link.old) (D.seen link.new) result }
 {
     match probe_access::held_reg(link, halted, register.number()) {
@@ -102,6 +105,7 @@ pub fn set_reg<D: Dmi>(
     ensures serving { OnOk result (Serving halted.now.number (D.seen link.new).far) }
     ensures refuses { IfErr result (Refuses (λ number. number ≡ number_of register)) }
     ensures rises { Within 8 (D.seen link.old) (D.seen link.new) }
+    ensures never { IfErr result (NeverLost (D.seen link.old)) }
     ensures keeps { Keeps access_why (D.seen link.old) (D.seen link.new) result }
 {
     probe_access::set_reg(link, halted, register.number(), value)?;
@@ -117,6 +121,7 @@ pub fn read_word<D: Dmi>(link: &mut D, halted: &Halted, slot: u8) -> Result<u64,
     ensures serving { OnOk result (Serving halted.now.number (D.seen link.new).far) }
     ensures refuses { IfErr result RefusesNoTinfo }
     ensures rises { Within 24 (D.seen link.old) (D.seen link.new) }
+    ensures never { IfErr result (NeverLost (D.seen link.old)) }
     ensures keeps { Keeps access_why (D.seen link.old) (D.seen link.new) result }
 {
     set_reg(link, halted, TriggerRegister::Tselect, u64::from(slot))?;

@@ -1,5 +1,7 @@
 ghost use Rattle.std.specs.Prelude.{◌≡◌, IfOk, IfErr, OnOk};
 ghost use Rattle.debug_model.specs.Rises.{Within};
+ghost use Rattle.probe_trig.specs.Never.{SlotNeverLost};
+ghost use Rattle.probe_access.specs.Never.{NeverLost};
 ghost use Rattle.debug_model.specs.Kept.{CanCall, Keeps};
 ghost use Rattle.probe_run.specs.Told.{told, OnChip, Fails, Serving};
 ghost use Rattle.probe_access.specs.Faults.{access_why};
@@ -60,6 +62,7 @@ fn put_back<D: Dmi>(link: &mut D, halted: &Halted) -> Result<bool, AccessFault>
     ensures failed { IfErr result (Fails (FailedIn EndsAny halted.now.number) (D.seen link.old) (D.seen link.new)) }
     ensures serving { OnOk result (Serving halted.now.number (D.seen link.new).far) }
     ensures rises { Within 168 (D.seen link.old) (D.seen link.new) }
+    ensures never { IfErr result (NeverLost (D.seen link.old)) }
     ensures keeps { Keeps access_why (D.seen link.old) (D.seen link.new) result }
 {
     let word = reg(link, halted, TriggerRegister::Dcsr)?;
@@ -81,6 +84,7 @@ fn step_back<D: Dmi>(link: &mut D, halted: Halted) -> Result<Stepped, AccessFaul
     ensures cut { IfErr result (IfCut (LeavesAt (BackCut halted.number) (D.seen link.old).far (D.seen link.new).far)) }
     ensures serving { OnOk result (Serving halted.number (D.seen link.new).far) }
     ensures rises { Within 217 (D.seen link.old) (D.seen link.new) }
+    ensures never { IfErr result (NeverLost (D.seen link.old)) }
     ensures keeps { Keeps access_why (D.seen link.old) (D.seen link.new) result }
 {
     let again = step(link, halted)?;
@@ -105,6 +109,7 @@ pub fn step_over<D: Dmi>(link: &mut D, halted: Halted) -> Result<Halted, TrigFau
     ensures cut { IfErr result (IfAccess (IfCut (LeavesAt (OverCut halted.number) (D.seen link.old).far (D.seen link.new).far))) }
     ensures serving { OnOk result (Serving halted.number (D.seen link.new).far) }
     ensures rises { Within 369 (D.seen link.old) (D.seen link.new) }
+    ensures never { IfErr result (SlotNeverLost (D.seen link.old)) }
     ensures keeps { Keeps trig_why (D.seen link.old) (D.seen link.new) result }
 {
     let _some = change_hits(link, &halted, Change::Hold)?;
@@ -129,6 +134,7 @@ pub fn let_go<D: Dmi>(link: &mut D, halted: Halted) -> Result<Gone, TrigFault>
     ensures selects { OnOk result (Selects halted.number (D.seen link.new).far) }
     ensures halted { IfOk result (IfStopped (IsHalted halted.number (D.seen link.new).far)) }
     ensures rises { Within 371 (D.seen link.old) (D.seen link.new) }
+    ensures never { IfErr result (SlotNeverLost (D.seen link.old)) }
     ensures keeps { Keeps trig_why (D.seen link.old) (D.seen link.new) result }
 {
     let some = change_hits(link, &halted, Change::Hold)?;

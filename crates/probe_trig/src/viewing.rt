@@ -1,5 +1,7 @@
 ghost use Rattle.std.specs.Prelude.{◌≡◌, ◌<◌, ◌∷◌, [], IfOk, IfErr, OnOk, map};
 ghost use Rattle.debug_model.specs.Rises.{Within};
+ghost use Rattle.probe_trig.specs.Never.{SlotNeverLost};
+ghost use Rattle.probe_access.specs.Never.{NeverLost};
 ghost use Rattle.debug_model.specs.Kept.{CanCall, Keeps};
 ghost use Rattle.probe_run.specs.Told.{told, OnChip, Fails, Serving};
 ghost use Rattle.probe_access.specs.Faults.{access_why};
@@ -30,6 +32,7 @@ fn read_slot<D: Dmi>(link: &mut D, halted: &Halted, slot: u8) -> Result<SlotWord
     ensures failed { IfErr result (Fails (FailedIn (SlotRead slot) halted.now.number) (D.seen link.old) (D.seen link.new)) }
     ensures serving { OnOk result (Serving halted.now.number (D.seen link.new).far) }
     ensures rises { Within 40 (D.seen link.old) (D.seen link.new) }
+    ensures never { IfErr result (NeverLost (D.seen link.old)) }
     ensures keeps { Keeps access_why (D.seen link.old) (D.seen link.new) result }
 {
     let tdata1 = read_word(link, halted, slot)?;
@@ -45,6 +48,7 @@ fn read_slots<D: Dmi>(link: &mut D, halted: &Halted) -> Result<[SlotWords; 4], A
     ensures failed { IfErr result (Fails (FailedIn ReadsAny halted.now.number) (D.seen link.old) (D.seen link.new)) }
     ensures serving { OnOk result (Serving halted.now.number (D.seen link.new).far) }
     ensures rises { Within 184 (D.seen link.old) (D.seen link.new) }
+    ensures never { IfErr result (NeverLost (D.seen link.old)) }
     ensures keeps { Keeps access_why (D.seen link.old) (D.seen link.new) result }
 {
     let kept = reg(link, halted, TriggerRegister::Tselect)?;
@@ -99,6 +103,7 @@ pub fn slots<D: Dmi>(link: &mut D, halted: &Halted) -> Result<SlotView, TrigFaul
     ensures cut { IfErr result (IfAccess (IfCut (Leaves (LeftAside DebugAlone halted.now.number) (D.seen link.old).far (D.seen link.new).far))) }
     ensures serving { OnOk result (Serving halted.now.number (D.seen link.new).far) }
     ensures rises { Within 184 (D.seen link.old) (D.seen link.new) }
+    ensures never { IfErr result (SlotNeverLost (D.seen link.old)) }
     ensures keeps { Keeps trig_why (D.seen link.old) (D.seen link.new) result }
 {
     let words = read_slots(link, halted)?;

@@ -9,6 +9,7 @@ ghost use Rattle.wire_session.specs.Closing.{IsOfRegister};
 ghost use Rattle.wire_session.specs.Session.{LeavesWire, told_by, told_by_scan};
 ghost use Rattle.wire_session.specs.WireSession.{IsTimed, WireSession, WireUpTo};
 ghost use Rattle.probe_session.specs.Causes.{EndCaused, SinkCaused};
+ghost use Rattle.probe_session.specs.Never.{EndsInTime};
 ghost use Rattle.probe_session.specs.Scripts.{EndedAs};
 ghost use Rattle.probe_session.specs.Transcribed.{TranscribedAs};
 ghost use Rattle.probe_session.specs.UnderWay.{EndedUpTo};
@@ -36,6 +37,7 @@ pub fn run_over_scan<S: Scan, K: Sink>(scan: S, script: &Script, out: &mut K) ->
         (told_by_scan (S.seen result.1)) (K.fault_count out.old) (K.fault_count out.new) (K.contents out.old)
         (K.contents out.new) result.0 }
     ensures rises { WithinBudget (S.seen scan).fixed.slack script.now (S.seen scan).far (S.seen result.1).far }
+    ensures never { EndsInTime (S.seen scan).far result.0 }
     ensures leaves { LeavesWire (S.seen result.1).far result.0 }
     ensures later { (S.seen scan).fault_count ≤ (S.seen result.1).fault_count }
     ensures fixed { (S.seen result.1).fixed ≡ (S.seen scan).fixed }
@@ -60,6 +62,7 @@ fn run_over<W: Wire, K: Sink>(wire: W, script: &Script, out: &mut K) -> (Ended, 
         (told_by (W.far result.1) (W.coming result.1)) (K.fault_count out.old) (K.fault_count out.new) (K.contents out.old)
         (K.contents out.new) result.0 }
     ensures rises { WithinBudget slack_of_wire script.now (W.far wire) (W.far result.1) }
+    ensures never { EndsInTime (W.far wire) result.0 }
     ensures leaves { LeavesWire (W.far result.1) result.0 }
     ensures later { W.fault_count wire ≤ W.fault_count result.1 }
     ensures ties { W.ties result.1 ≡ W.ties wire }
@@ -97,6 +100,7 @@ pub fn run_session<W: Wire, K: Sink>(wire: &mut W, script: &Script, out: &mut K)
         (record { printed = K.contents out.new; faults = K.fault_count out.new })
         result }
     ensures rises { WithinBudget slack_of_wire script.now (W.far wire.old) (W.far wire.new) }
+    ensures never { EndsInTime (W.far wire.old) result }
     ensures of_register { IsOfRegister result }
     ensures sink_cause { SinkCaused (K.fault_count out.old) (K.fault_count out.new) result }
     ensures ties { W.ties wire.new ≡ W.ties wire.old }
