@@ -1,3 +1,4 @@
 pub mod Loading
 pub mod Loaded
 pub mod Laws
+pub mod Budget

@@ -2,13 +2,17 @@
 
 ghost use Rattle.std.specs.Prelude.{◌≡◌, ◌≤◌, [], IfErr, IfOk};
 ghost use Rattle.abstract_debugger.specs.Laws.{Quiet};
+ghost use Rattle.debug_model.specs.Rises.{Within};
 ghost use Rattle.elf_load.specs.Elf.{ReadsAs};
+ghost use Rattle.elf_load.specs.Runs.{load_rises};
+ghost use Rattle.elf_session.specs.Budget.{loading_rises};
 ghost use Rattle.elf_session.specs.Loaded.{AttachedIf, AttachedLoaded, StoredAs, at_elements, at_entry, at_loaded, before_entry, before_loading, behind_loading};
 ghost use Rattle.elf_session.specs.Loading.{loading_hart, loading_of};
 ghost use Rattle.probe_run.specs.Told.{told, Fails};
 ghost use Rattle.probe_session.specs.Goes.{Falls, Fell, Spoke, Went};
 ghost use Rattle.probe_session.specs.Known.{Knows};
 ghost use Rattle.probe_session.specs.Links.{Attached, AttachedHalted, Goes};
+ghost use Rattle.probe_session.specs.Never.{NeverGivesUp};
 
 use debug_model::Dmi;
 use elf_load::{Elf, load_elf};
@@ -37,6 +41,8 @@ fn store<D: Dmi>(link: &mut D, elf: &Elf, file: &[u8]) -> Result<Stored, Failure
     requires read { ReadsAs file.now elf.now }
     ensures stored { IfOk result (StoredAs (loading_of file.now) (told (D.seen link.old)) (told (D.seen link.new))) }
     ensures falls { IfErr result (Fails (Falls (at_elements (loading_of file.now).elements) []) (D.seen link.old) (D.seen link.new)) }
+    ensures rises { Within (load_rises file.now) (D.seen link.old) (D.seen link.new) }
+    ensures never { IfErr result (NeverGivesUp (D.seen link.old)) }
     ensures keeps { Goes (λ _. Attached) (D.seen link.old) (D.seen link.new) result }
 {
     match load_elf(link, elf, file) {
@@ -59,6 +65,8 @@ fn entered_line<D: Dmi>(
     ensures went { IfOk result
         (λ line. Went (at_entry halted.now.number entry size) (at_loaded line) [] (told (D.seen link.old)) (told (D.seen link.new))) }
     ensures falls { IfErr result (Fails (Falls (at_entry halted.now.number entry size) []) (D.seen link.old) (D.seen link.new)) }
+    ensures rises { Within 160 (D.seen link.old) (D.seen link.new) }
+    ensures never { IfErr result (NeverGivesUp (D.seen link.old)) }
     ensures keeps { Goes (λ _. AttachedHalted halted.now.number) (D.seen link.old) (D.seen link.new) result }
 {
     if !set_reg_if_taken(link, halted, register_number::DPC, entry)? {
@@ -74,6 +82,8 @@ fn entry_line<D: Dmi>(link: &mut D, target: &Target, entry: u64, size: u32) -> R
     ensures went { IfOk result
         (λ line. Went (before_entry entry size) (at_loaded line) [] (told (D.seen link.old)) (told (D.seen link.new))) }
     ensures falls { IfErr result (Fails (Falls (before_entry entry size) []) (D.seen link.old) (D.seen link.new)) }
+    ensures rises { Within 162 (D.seen link.old) (D.seen link.new) }
+    ensures never { IfErr result (NeverGivesUp (D.seen link.old)) }
     ensures keeps { Goes AttachedLoaded (D.seen link.old) (D.seen link.new) result }
 {
     match meet(link, target, LOADING_HART, Known::Nothing)? {
@@ -96,6 +106,8 @@ fn loaded_line<D: Dmi>(
     ensures went { IfOk result (λ line. Went (before_loading (loading_of file.now)) (at_loaded line) [] (told (D.seen link.old))
         (told (D.seen link.new))) }
     ensures falls { IfErr result (Fails (Falls (before_loading (loading_of file.now)) []) (D.seen link.old) (D.seen link.new)) }
+    ensures rises { Within (loading_rises file.now) (D.seen link.old) (D.seen link.new) }
+    ensures never { IfErr result (NeverGivesUp (D.seen link.old)) }
     ensures keeps { Goes AttachedLoaded (D.seen link.old) (D.seen link.new) result }
 {
     match meet(link, target, LOADING_HART, known)? {
@@ -125,6 +137,8 @@ pub(crate) fn load<D: Dmi, K: Sink>(
     ensures fell { IfErr result (Fell Quiet (before_loading (loading_of file.now)) (D.seen link.old).fault_count (D.seen link.new).fault_count
         (told (D.seen link.old)) (told (D.seen link.new)) (K.fault_count out.old)
         (K.fault_count out.new) (K.contents out.old) (K.contents out.new)) }
+    ensures rises { Within (loading_rises file.now) (D.seen link.old) (D.seen link.new) }
+    ensures never { IfErr result (NeverGivesUp (D.seen link.old)) }
     ensures keeps { Goes AttachedIf (D.seen link.old) (D.seen link.new) result }
     ensures sink_later { K.fault_count out.old ≤ K.fault_count out.new }
 {

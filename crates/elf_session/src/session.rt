@@ -1,17 +1,21 @@
 //! A whole session that loads a file first.
 
-ghost use Rattle.std.specs.Prelude.{◌≡◌, ◌≤◌, All};
+ghost use Rattle.std.specs.Prelude.{◌≡◌, ◌≤◌, ◌+◌, All};
 ghost use Rattle.abstract_debugger.specs.Debugger.{first_state};
 ghost use Rattle.debug_model.specs.Command.{IsWithinRanges};
 ghost use Rattle.debug_model.specs.Kept.{CanCall};
+ghost use Rattle.debug_model.specs.Rises.{Within};
 ghost use Rattle.debug_model.specs.Told.{IsAsLoaded};
 ghost use Rattle.elf_load.specs.Elf.{ReadsAs};
+ghost use Rattle.elf_session.specs.Budget.{elf_rises, loading_rises};
 ghost use Rattle.elf_session.specs.Loading.{elf_plan};
 ghost use Rattle.probe_run.specs.Told.{told};
+ghost use Rattle.probe_session.specs.Budget.{commands_rises};
 ghost use Rattle.probe_session.specs.Causes.{EndCaused, SinkCaused};
 ghost use Rattle.probe_session.specs.Commands.{state_of};
 ghost use Rattle.probe_session.specs.Known.{Knows};
 ghost use Rattle.probe_session.specs.Links.{Attached};
+ghost use Rattle.probe_session.specs.Never.{EndsInTime};
 ghost use Rattle.probe_session.specs.Scripts.{EndedBy, FollowedBy, LeavesLink};
 ghost use Rattle.probe_session.specs.Transcribed.{TranscribedBy};
 ghost use Rattle.probe_session.specs.declared.known.Known.TheVariants as known;
@@ -40,6 +44,8 @@ fn load_and_run<D: Dmi, K: Sink>(
     ensures followed { FollowedBy (elf_plan file.now commands.now) (D.seen link.old).fault_count (D.seen link.new).fault_count
         (told (D.seen link.old)) (told (D.seen link.new)) (K.fault_count out.old)
         (K.fault_count out.new) (K.contents out.old) (K.contents out.new) result }
+    ensures rises { Within (loading_rises file.now + commands_rises commands.now) (D.seen link.old) (D.seen link.new) }
+    ensures never { EndsInTime (D.seen link.old).far result }
     ensures leaves { LeavesLink result (D.seen link.new) }
     ensures later { (D.seen link.old).fault_count ≤ (D.seen link.new).fault_count }
     ensures fixed { (D.seen link.new).fixed ≡ (D.seen link.old).fixed }
@@ -75,6 +81,8 @@ pub fn run_elf<D: Dmi, K: Sink>(
     ensures sink_cause { SinkCaused (K.fault_count out.old) (K.fault_count out.new) result }
     ensures transcribed { TranscribedBy (elf_plan file.now script.now) (K.contents out.old) (K.contents out.new) (D.seen link.old).far
         (D.seen link.new).far result }
+    ensures rises { Within (elf_rises file.now script.now) (D.seen link.old) (D.seen link.new) }
+    ensures never { EndsInTime (D.seen link.old).far result }
     ensures leaves { LeavesLink result (D.seen link.new) }
     ensures later { (D.seen link.old).fault_count ≤ (D.seen link.new).fault_count }
     ensures fixed { (D.seen link.new).fixed ≡ (D.seen link.old).fixed }

@@ -4,10 +4,13 @@ ghost use Rattle.std.specs.Prelude.{◌≡◌, ◌≤◌};
 ghost use Rattle.debug_model.specs.Dmi.{CanOperate};
 ghost use Rattle.debug_model.specs.Told.{IsAsLoaded, IsRead};
 ghost use Rattle.elf_load.specs.Elf.{ReadsAs};
+ghost use Rattle.elf_session.specs.Budget.{ElfWithinBudget};
 ghost use Rattle.elf_session.specs.Loading.{elf_plan};
 ghost use Rattle.probe_session.specs.Causes.{EndCaused, SinkCaused};
+ghost use Rattle.probe_session.specs.Never.{EndsInTime};
 ghost use Rattle.probe_session.specs.Scripts.{EndedBy};
 ghost use Rattle.probe_session.specs.Transcribed.{TranscribedBy};
+ghost use Rattle.wire_session.specs.Budget.{slack_of_wire};
 ghost use Rattle.wire_session.specs.Closing.{IsOfRegister};
 ghost use Rattle.wire_session.specs.Session.{LeavesWire, told_by, told_by_scan};
 ghost use Rattle.wire_session.specs.WireSession.{IsTimed, WireSessionBy};
@@ -42,6 +45,8 @@ pub fn run_elf_over_scan<S: Scan, K: Sink>(
     ensures sink_cause { SinkCaused (K.fault_count out.old) (K.fault_count out.new) result.0 }
     ensures transcribed { TranscribedBy (elf_plan file.now script.now) (K.contents out.old) (K.contents out.new) (S.seen scan).far
         (S.seen result.1).far result.0 }
+    ensures rises { ElfWithinBudget (S.seen scan).fixed.slack file.now script.now (S.seen scan).far (S.seen result.1).far }
+    ensures never { EndsInTime (S.seen scan).far result.0 }
     ensures leaves { LeavesWire (S.seen result.1).far result.0 }
     ensures later { (S.seen scan).fault_count ≤ (S.seen result.1).fault_count }
     ensures fixed { (S.seen result.1).fixed ≡ (S.seen scan).fixed }
@@ -70,6 +75,8 @@ fn run_elf_over<W: Wire, K: Sink>(
     ensures sink_cause { SinkCaused (K.fault_count out.old) (K.fault_count out.new) result.0 }
     ensures transcribed { TranscribedBy (elf_plan file.now script.now) (K.contents out.old) (K.contents out.new) (W.far wire) (W.far result.1)
         result.0 }
+    ensures rises { ElfWithinBudget slack_of_wire file.now script.now (W.far wire) (W.far result.1) }
+    ensures never { EndsInTime (W.far wire) result.0 }
     ensures leaves { LeavesWire (W.far result.1) result.0 }
     ensures later { W.fault_count wire ≤ W.fault_count result.1 }
     ensures ties { W.ties result.1 ≡ W.ties wire }
@@ -101,6 +108,8 @@ pub fn run_elf_session<W: Wire, K: Sink>(
         (record { printed = K.contents out.old; faults = K.fault_count out.old })
         (record { printed = K.contents out.new; faults = K.fault_count out.new })
         result }
+    ensures rises { ElfWithinBudget slack_of_wire file.now script.now (W.far wire.old) (W.far wire.new) }
+    ensures never { EndsInTime (W.far wire.old) result }
     ensures of_register { IsOfRegister result }
     ensures sink_cause { SinkCaused (K.fault_count out.old) (K.fault_count out.new) result }
     ensures ties { W.ties wire.new ≡ W.ties wire.old }

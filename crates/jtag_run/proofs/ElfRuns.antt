@@ -1,5 +1,5 @@
 -- How a job and a run end whose session loads an ELF file, over plain variables.
-use Rattle.std.proofs.Common.{◌≡◌, ◌∙◌, ℕ, List, [], Option, Some, None, IfSome, subst}
+use Rattle.std.proofs.Common.{◌≡◌, ◌∙◌, ◌≤◌, ℕ, List, [], Option, Some, None, IfSome, subst}
 use Rattle.chip_core.specs.Feeds.{limit_met}
 use Rattle.debug_model.specs.declared.command.Command.{Command}
 use Rattle.debug_model.specs.Chip.{Live}
@@ -27,10 +27,11 @@ pub prepared_elf_fresh : (job : BothElf) (held : Option (List NamedFile)) (comma
 prepared_elf_fresh job held commands file bench p = record { first = first_chip (halted job.options) []; is = p.is; as_loaded = p.as_loaded }
 
 pub elf_ended : (old bench : Option Live) (file : List ℕ) (script : List Command) (was mid is : SinkSeen) (closed : End) (status : Status)
-    → IfSome old (λ first. OnBenchBy first (of_elf file script) was mid bench (limit_met bench) closed) → ClosedBy closed (limit_met bench) mid is status
+    → was.faults ≤ mid.faults → IfSome old (λ first. OnBenchBy first (of_elf file script) was mid bench (limit_met bench) closed) → ClosedBy closed (limit_met bench) mid is status
     → IfSome old (λ first. ElfEnd first file script was is bench status)
-elf_ended None bench file script was mid is closed status ran told = tt
-elf_ended (Some first) bench file script was mid is closed status ran told = record { closed = closed; behind = mid; ran = ran; told = told }
+elf_ended None bench file script was mid is closed status later ran told = tt
+elf_ended (Some first) bench file script was mid is closed status later ran told =
+    record { closed = closed; behind = mid; later = later; ran = ran; told = told }
 
 pub elf_ran : (job : BothElf) (files_was files_is : FilesSeen) (old new : SinkSeen) (bench mid left : Option Live) (status : Status)
     (commands : List Command) (file : List ℕ) → PreparedElf job files_was.held commands file mid

@@ -1,5 +1,5 @@
 -- How a job and a run end, over plain variables.
-use Rattle.std.proofs.Common.{◌≡◌, ◌∙◌, ℕ, false, List, Option, Some, None, IfSome, refl, sym, ap, subst}
+use Rattle.std.proofs.Common.{◌≡◌, ◌∙◌, ◌≤◌, ℕ, false, List, Option, Some, None, IfSome, refl, sym, ap, subst}
 use Rattle.chain_bench.specs.Benched.{tck_of}
 use Rattle.debug_model.specs.declared.command.Command.{Command}
 use Rattle.chip_core.specs.Feeds.{limit_met}
@@ -47,9 +47,9 @@ pub closed_said : (line : List ℕ) (wanted : Status) (s t : SinkSeen) (status :
     → Closed line wanted s t status
 closed_said line wanted s t status is put = subst (Closed line wanted s t) (sym is) (said put)
 
-pub closed_unsaid : (line : List ℕ) (wanted : Status) (s t : SinkSeen) → GrewByPrefix line s.printed t.printed → Rises s.faults t.faults
+pub closed_unsaid : (line : List ℕ) (wanted : Status) (s t : SinkSeen) → GrewByPrefix line s.printed t.printed → s.faults ≤ t.faults → Rises s.faults t.faults
     → Closed line wanted s t Sink
-closed_unsaid line wanted s t wrote rises = unsaid wrote rises
+closed_unsaid line wanted s t wrote later rises = unsaid wrote later rises
 
 -- ---- a session of files
 

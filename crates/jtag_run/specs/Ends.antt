@@ -38,6 +38,7 @@ use Rattle.wire_session.specs.Seen.{SinkSeen}
 pub record BenchEndBy (first : Live) (sequel : Sequel) (old new : SinkSeen) (bench : Option Live) (status : Status) : Type 0 where
   pub closed : End
   pub behind : SinkSeen  -- the sink behind the session, before a last line
+  pub later : old.faults ≤ behind.faults
   pub ran : OnBenchBy first sequel old behind bench (limit_met bench) closed
   pub told : ClosedBy closed (limit_met bench) behind new status
 
@@ -136,7 +137,8 @@ pub data ProbeEnd (at : List ℕ) (chain : Option ChainPlan) (script : List Comm
   alone : IsSome chain → IsSome net_was.peer.chip → net_is ≡ net_was → Refused Open old new status → ProbeEnd at chain script net_was net_is old new status
   unopened : (fault : NetFault) → OpenFailed calls.Connect (Some at) fault net_was net_is → Refused (refusal_of fault) old new status
       → ProbeEnd at chain script net_was net_is old new status
-  opened : (mid : NetSeen) (closed : End) (behind : SinkSeen) → ConnectedAt at net_was mid → OnNetAs chain script mid net_is old behind closed
+  opened : (mid : NetSeen) (closed : End) (behind : SinkSeen) → ConnectedAt at net_was mid → old.faults ≤ behind.faults
+      → OnNetAs chain script mid net_is old behind closed
       → ClosedBy closed false behind new status
       → ProbeEnd at chain script net_was net_is old new status
 
@@ -144,6 +146,6 @@ pub data ProbeEnd (at : List ℕ) (chain : Option ChainPlan) (script : List Comm
 pub data ProbeElfEnd (at file : List ℕ) (script : List Command) (net_was net_is : NetSeen) (old new : SinkSeen) (status : Status) : Type 0 where
   unopened : (fault : NetFault) → OpenFailed calls.Connect (Some at) fault net_was net_is → Refused (refusal_of fault) old new status
       → ProbeElfEnd at file script net_was net_is old new status
-  opened : (mid : NetSeen) (closed : End) (behind : SinkSeen) → ConnectedAt at net_was mid
+  opened : (mid : NetSeen) (closed : End) (behind : SinkSeen) → ConnectedAt at net_was mid → old.faults ≤ behind.faults
       → OnNetBy (of_elf file script) mid net_is old behind closed → ClosedBy closed false behind new status
       → ProbeElfEnd at file script net_was net_is old new status

@@ -1,6 +1,6 @@
 -- The last line of a run that is refused, that failed or that met the event limit, and how it is put.
 -- The lines are this project's own (docs/FORMATS.md, "Statuses").
-use Rattle.std.specs.Prelude.{◌≡◌, ℕ, true, false, List, [], ◌∷◌, ◌++◌, codes, decimal}
+use Rattle.std.specs.Prelude.{◌≡◌, ◌≤◌, ℕ, true, false, List, [], ◌∷◌, ◌++◌, codes, decimal}
 use Rattle.chip_core.specs.Loads.{load_fault_number}
 use Rattle.chip_core.specs.declared.load_fault.LoadFault.{LoadFault}
 use Rattle.debug_model.specs.ScriptFault.{fault_number}
@@ -105,4 +105,4 @@ answers_refused asked given = asked_part asked ++ given_part given
 -- a last line was put, and this is the status; or a front of it, and the status is the sink's
 pub data Closed (line : List ℕ) (wanted : Status) (old new : SinkSeen) : Status → Type 0 where
   said : new.printed ≡ grown line old.printed → Closed line wanted old new wanted
-  unsaid : GrewByPrefix line old.printed new.printed → Rises old.faults new.faults → Closed line wanted old new Sink
+  unsaid : GrewByPrefix line old.printed new.printed → old.faults ≤ new.faults → Rises old.faults new.faults → Closed line wanted old new Sink

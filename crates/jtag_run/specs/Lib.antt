@@ -18,5 +18,6 @@ pub mod SoftEnds
 pub mod SoftRan
 pub mod SoftRefusal
 pub mod Status
+pub mod Succeeds
 pub mod Summary
 pub mod Jobs

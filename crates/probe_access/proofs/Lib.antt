@@ -139,3 +139,4 @@ pub mod BusStoreAwaitTold
 pub mod BusStoreAwaitCuts
 pub mod BusStoreAwaitFaults
 pub mod StepRises
+pub mod NeverLemmas

@@ -30,3 +30,4 @@ pub mod SoonCalls
 pub mod Steps
 pub mod Waiting
 pub mod Wide
+pub mod NeverLemmas

@@ -19,7 +19,7 @@ returns-in-Ok g c = record {
         later = c.connect.ensures.later;
         ends = c.connect.ensures.ends;
       })
-      (rw c.deref.ensures.value at c.run_elf_on_net-ended.ensures.ran) c.tell.ensures.told;
+      c.run_elf_on_net-ended.ensures.sink_later (rw c.deref.ensures.value at c.run_elf_on_net-ended.ensures.ran) c.tell.ensures.told;
 }
 
 pub returns-in-Err : goal.returns-in-Err

@@ -20,7 +20,7 @@ returns-in-Ok g c = record {
         ends =
             c.connect.ensures.ends;
       })
-      c.run_on_net-ended.ensures.ran c.tell.ensures.told;
+      c.run_on_net-ended.ensures.sink_later c.run_on_net-ended.ensures.ran c.tell.ensures.told;
 }
 
 pub returns-in-Err : goal.returns-in-Err

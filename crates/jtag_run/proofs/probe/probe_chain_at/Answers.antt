@@ -32,7 +32,7 @@ returns-in-Ok g c = record {
         ends =
             c.connect.ensures.ends;
       })
-      c.run_on_chain_net-closed.ensures.ran c.tell.ensures.told;
+      c.run_on_chain_net-closed.ensures.sink_later c.run_on_chain_net-closed.ensures.ran c.tell.ensures.told;
 }
 
 pub returns-in-Err : goal.returns-in-Err
