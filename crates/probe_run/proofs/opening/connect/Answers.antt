@@ -8,6 +8,8 @@ use Rattle.probe_run.proofs.OpenedReady.{opened_ready, opened_selects}
 use Rattle.probe_run.proofs.OpeningLemmas.{opened_by}
 use Rattle.probe_run.proofs.Releases.{opened_release}
 use Rattle.probe_run.proofs.OpeningFails.{activation_fails, bus_fails, commands_fail, module_fails, transport_fails}
+use Rattle.probe_run.specs.Soon.{OpeningByWire}
+use Rattle.probe_run.proofs.NeverLemmas.{opening_then}
 use Rattle.probe_run.proofs.opening.connect.Goals as goal
 
 pub returns-in_err-check_transport-clause-fails : goal.returns-in_err-check_transport-clause-fails
@@ -257,3 +259,18 @@ returns-clause-rises g c = (within_then 68 4 72 _ (g.D.Dmi.seen c.check_commands
     (c.activate.ensures.keeps.fixed ∙ c.check_transport.ensures.keeps.fixed) (omega arith)) c.check_commands.ensures.rises
     (c.check_module.ensures.keeps.fixed ∙ c.activate.ensures.keeps.fixed ∙ c.check_transport.ensures.keeps.fixed) (omega arith)) c.check_bus.ensures.rises
     (c.check_commands.ensures.keeps.fixed ∙ c.check_module.ensures.keeps.fixed ∙ c.activate.ensures.keeps.fixed ∙ c.check_transport.ensures.keeps.fixed) (omega arith))
+
+pub returns-in_err-check_commands-clause-never : goal.returns-in_err-check_commands-clause-never
+returns-in_err-check_commands-clause-never g c =
+    if_err (OpeningByWire (g.D.Dmi.seen c.args.link.now)) c.from_residual-in_err-check_commands.result _ c.from_residual-in_err-check_commands.ensures.1
+    (opening_then 1 _ (g.D.Dmi.seen c.check_transport.new.link) _ c.check_transport.ensures.rises
+    (opening_then 65 _ (g.D.Dmi.seen c.activate.new.link) _ c.activate.ensures.rises
+    (opening_then 1 _ (g.D.Dmi.seen c.check_module.new.link) _ c.check_module.ensures.rises c.in_err-check_commands.ensures.never)))
+
+pub returns-in_err-check_bus-clause-never : goal.returns-in_err-check_bus-clause-never
+returns-in_err-check_bus-clause-never g c =
+    if_err (OpeningByWire (g.D.Dmi.seen c.args.link.now)) c.from_residual-in_err-check_bus.result _ c.from_residual-in_err-check_bus.ensures.1
+    (opening_then 1 _ (g.D.Dmi.seen c.check_transport.new.link) _ c.check_transport.ensures.rises
+    (opening_then 65 _ (g.D.Dmi.seen c.activate.new.link) _ c.activate.ensures.rises
+    (opening_then 1 _ (g.D.Dmi.seen c.check_module.new.link) _ c.check_module.ensures.rises
+    (opening_then 1 _ (g.D.Dmi.seen c.check_commands.new.link) _ c.check_commands.ensures.rises c.in_err-check_bus.ensures.never))))

@@ -70,7 +70,7 @@ returns-in-Unshown-clause-rises g c =
     c.ask.ensures.rises (λ v. resume_unpaced c.args.self.number c.args.self.within (told (g.D.Dmi.seen c.args.link.now)) (can_go c.args.self.number _ c.requires.ready c.requires.halted) v)
 
 pub returns-in_err-ask-clause-never : goal.returns-in_err-ask-clause-never
-returns-in_err-ask-clause-never g c = if_err (NeverInVain (g.D.Dmi.seen c.args.link.now)) c.from_residual.result _ c.from_residual.ensures.1 tt
+returns-in_err-ask-clause-never g c = if_err (NeverInVain (g.D.Dmi.seen c.args.link.now)) c.from_residual.result _ c.from_residual.ensures.1 c.in_err-ask.ensures.never
 
 pub returns-in-Unshown-clause-never : goal.returns-in-Unshown-clause-never
 returns-in-Unshown-clause-never g c =

@@ -87,7 +87,7 @@ returns-in-Unshown-false-clause-soon g c =
     c.ask.ensures.rises (λ v. step_unpaced c.args.self.number c.args.self.within (told (g.D.Dmi.seen c.args.link.now)) (can_step c.args.self.number _ c.requires.ready c.requires.halted set) v)
 
 pub returns-in_err-ask-clause-never : goal.returns-in_err-ask-clause-never
-returns-in_err-ask-clause-never g c = λ set. if_err (NeverInVain (g.D.Dmi.seen c.args.link.now)) c.from_residual.result _ c.from_residual.ensures.1 tt
+returns-in_err-ask-clause-never g c = λ set. if_err (NeverInVain (g.D.Dmi.seen c.args.link.now)) c.from_residual.result _ c.from_residual.ensures.1 c.in_err-ask.ensures.never
 
 pub returns-in-Unshown-true-clause-never : goal.returns-in-Unshown-true-clause-never
 returns-in-Unshown-true-clause-never g c =

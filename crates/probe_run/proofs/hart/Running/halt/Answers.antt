@@ -12,6 +12,7 @@ use Rattle.probe_run.proofs.Halting.{can_run, clear_broke, clear_fails, halt_bro
 use Rattle.probe_run.specs.Soon.{NeverInVain, VainLooks}
 use Rattle.probe_run.proofs.Soon.{halt_unpaced}
 use Rattle.probe_run.proofs.SoonCalls.{within_soon}
+use Rattle.probe_run.proofs.NeverLemmas.{by_wire_then}
 use Rattle.probe_run.proofs.hart.Running.halt.Goals as goal
 
 pub returns-in_err-ask-clause-left : goal.returns-in_err-ask-clause-left
@@ -115,11 +116,12 @@ returns-in-Unshown-clause-rises g c =
     c.ask.ensures.rises (λ v. halt_unpaced c.args.self.number c.args.self.within (told (g.D.Dmi.seen c.args.link.now)) (can_run c.args.self.number _ c.requires.ready c.requires.exists) v)) (omega arith)
 
 pub returns-in_err-ask-clause-never : goal.returns-in_err-ask-clause-never
-returns-in_err-ask-clause-never g c = if_err (NeverInVain (g.D.Dmi.seen c.args.link.now)) c.from_residual.result _ c.from_residual.ensures.1 tt
+returns-in_err-ask-clause-never g c = if_err (NeverInVain (g.D.Dmi.seen c.args.link.now)) c.from_residual.result _ c.from_residual.ensures.1 c.in_err-ask.ensures.never
 
 pub returns-in_err-control-in-Shown-clause-never : goal.returns-in_err-control-in-Shown-clause-never
 returns-in_err-control-in-Shown-clause-never g c =
-    if_err (NeverInVain (g.D.Dmi.seen c.args.link.now)) c.from_residual-in_err-control-in-Shown.result _ c.from_residual-in_err-control-in-Shown.ensures.1 tt
+    if_err (NeverInVain (g.D.Dmi.seen c.args.link.now)) c.from_residual-in_err-control-in-Shown.result _ c.from_residual-in_err-control-in-Shown.ensures.1
+    (by_wire_then 65 (g.D.Dmi.seen c.args.link.now) (g.D.Dmi.seen c.ask.new.link) _ c.ask.ensures.rises c.in_err-control-in-Shown.ensures.never)
 
 pub returns-in-Unshown-clause-never : goal.returns-in-Unshown-clause-never
 returns-in-Unshown-clause-never g c =
