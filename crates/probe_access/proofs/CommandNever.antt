@@ -47,12 +47,12 @@ wire_behind r n old mid why is w x = err_failed r (fault.Dmi why) (NeverLost old
 -- ---- a fault in whose place another may come
 
 -- what a fault comes from where the schedule is fair, whatever the chip
-run_bare : RunFault → Type 0
+abbrev run_bare : RunFault → Type 0
 run_bare (run.Dmi why) = IsOfWire why
 run_bare (run.NoHalt looks) = ⊥
 run_bare (run.NoAck looks) = ⊥
 
-bare : AccessFault → Type 0
+abbrev bare : AccessFault → Type 0
 bare (fault.Dmi why) = IsOfWire why
 bare (fault.Memory address) = Unit {0}
 bare (fault.Register number) = Unit {0}
@@ -60,7 +60,7 @@ bare fault.StillBusy = ⊥
 bare (fault.Run why) = run_bare why
 bare (fault.Odd shown) = Unit {0}
 
-Fairly : Option Far → Type 0 → Type 0
+abbrev Fairly : Option Far → Type 0 → Type 0
 Fairly told X = IfSome told (λ f. Paced (chip_of f).inside → X)
 
 always : (X : Type 0) (told : Option Far) → X → Fairly told X
