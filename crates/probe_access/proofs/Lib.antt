@@ -139,4 +139,5 @@ pub mod BusStoreAwaitTold
 pub mod BusStoreAwaitCuts
 pub mod BusStoreAwaitFaults
 pub mod StepRises
+pub mod CommandNever
 pub mod NeverLemmas

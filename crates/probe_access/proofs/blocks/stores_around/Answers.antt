@@ -5,6 +5,8 @@ use Rattle.probe_access.specs.MemoryRuns.AroundFailed.{in_save}
 use Rattle.probe_access.proofs.AroundLemmas.{around_gave_up, around_restore}
 use Rattle.probe_access.proofs.StoreRunCalls.{stores_counted}
 use Rattle.probe_access.proofs.RegisterCalls.{err_failed}
+use Rattle.probe_access.proofs.CommandNever.{gave_lost}
+use Rattle.probe_access.proofs.NeverLemmas.{lost_then}
 use Rattle.probe_access.proofs.blocks.stores_around.Goals as goal
 
 pub returns-in_err-scratch-clause-failed : goal.returns-in_err-scratch-clause-failed
@@ -56,3 +58,10 @@ returns-in-Err-clause-rises g c =
     c.save_scratch.ensures.keeps.fixed (omega arith))
     c.give_up.ensures.rises
     (c.store_elements.ensures.keeps.fixed ∙ c.save_scratch.ensures.keeps.fixed) (omega arith)
+
+pub returns-in-Err-clause-never : goal.returns-in-Err-clause-never
+returns-in-Err-clause-never g c =
+    gave_lost (63 * c.args.count + 288) (g.D.Dmi.seen c.args.link.now) (g.D.Dmi.seen c.store_elements.new.link) c.in-Err.fault _
+    (within_then 32 (63 * c.args.count + 256) (63 * c.args.count + 288) _ (g.D.Dmi.seen c.save_scratch.new.link) _ c.save_scratch.ensures.rises c.store_elements.ensures.rises
+    c.save_scratch.ensures.keeps.fixed (omega arith))
+    (lost_then 32 (g.D.Dmi.seen c.args.link.now) (g.D.Dmi.seen c.save_scratch.new.link) c.in-Err.fault c.save_scratch.ensures.rises c.in-Err.ensures.never) c.give_up.ensures.never

@@ -6,6 +6,7 @@ use Rattle.probe_access.proofs.BusLoadAwaitFaults.{await_causes, await_cut, awai
 use Rattle.probe_access.proofs.BusLoadAwaitTold.{loads_awaited}
 use Rattle.probe_access.proofs.BusSpent.{all_awaited_spent, awaited_loads_failed, unbroken_behind, within_more, within_then}
 use Rattle.probe_access.proofs.RegisterCalls.{err_failed}
+use Rattle.probe_access.proofs.CommandNever.{lost_behind}
 use Rattle.probe_access.proofs.bus_blocks.bus_load_block.Goals as goal
 
 below_len : (count : ℕ) (values : List ℕ) → length values ≤ count → length values ≢ count → length values < count
@@ -112,3 +113,8 @@ returns-clause-rises g c =
     rises_then (2 * c.args.count + 22) (4 * c.args.count + 4) (6 * c.args.count + 26) _ (g.D.Dmi.seen c.load_runs.new.link) _ c.load_runs.ensures.rises
     c.load_awaited.ensures.rises
     c.load_runs.ensures.keeps.fixed (omega arith)
+
+pub returns-in_err-load_awaited-clause-never : goal.returns-in_err-load_awaited-clause-never
+returns-in_err-load_awaited-clause-never g c =
+    lost_behind c.from_residual-in_err-load_awaited.result (2 * c.args.count + 22) (g.D.Dmi.seen c.args.link.now) (g.D.Dmi.seen c.load_runs.new.link) c.in_err-load_awaited.field-0.0
+    c.from_residual-in_err-load_awaited.ensures.1 c.load_runs.ensures.rises c.in_err-load_awaited.ensures.never

@@ -22,6 +22,7 @@ use Rattle.probe_access.proofs.BusSpent.{
   within_then,
 }
 use Rattle.probe_access.proofs.RegisterCalls.{err_failed}
+use Rattle.probe_access.proofs.CommandNever.{lost_behind}
 use Rattle.probe_access.proofs.bus_blocks.bus_store_values.Goals as goal
 
 pub returns-in_err-done-clause-refused : goal.returns-in_err-done-clause-refused
@@ -249,3 +250,8 @@ returns-clause-rises g c =
     (words_from c.args.values.now c.in_ok-done.done (length c.args.values.now - c.in_ok-done.done) + 2 * length c.args.values.now + 4)
     (bus_values_rises c.args.values.now) _ (g.D.Dmi.seen c.store_run.new.link) _ c.store_run.ensures.rises c.store_awaited.ensures.rises
     c.store_run.ensures.keeps.fixed (omega (arith, words_behind c.args.values.now c.in_ok-done.done within))
+
+pub returns-in_err-store_awaited-clause-never : goal.returns-in_err-store_awaited-clause-never
+returns-in_err-store_awaited-clause-never g c =
+    lost_behind c.from_residual-in_err-store_awaited.result _ (g.D.Dmi.seen c.args.link.now) (g.D.Dmi.seen c.store_run.new.link) c.in_err-store_awaited.field-0.0
+    c.from_residual-in_err-store_awaited.ensures.1 c.store_run.ensures.rises c.in_err-store_awaited.ensures.never

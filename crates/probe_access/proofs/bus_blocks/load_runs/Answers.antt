@@ -9,6 +9,7 @@ use Rattle.probe_access.proofs.BusBlockCauses.{bus_causes_behind, bus_loads_call
 use Rattle.probe_access.proofs.BusLoadBehind.{cut_behind, cut_of_more, left_behind, loaded_behind, loads_behind, refused_behind}
 use Rattle.probe_access.proofs.BusSpent.{unbroken_behind, unbroken_more, within_more, within_then, words_most}
 use Rattle.probe_access.proofs.RegisterCalls.{err_failed}
+use Rattle.probe_access.proofs.NeverLemmas.{lost_then}
 use Rattle.probe_access.proofs.bus_blocks.load_runs.Goals as goal
 
 pub returns-in_err-load_run-clause-cut : goal.returns-in_err-load_run-clause-cut
@@ -168,3 +169,7 @@ returns-in-Err-clause-rises g c =
     rises_then (2 * c.first_run-first.result + 11) (2 * (c.args.count - c.len-done.result) + 11) (2 * c.args.count + 22) _ (g.D.Dmi.seen c.load_run.new.link)
     _ c.load_run.ensures.rises c.load_run-2.ensures.rises
     c.load_run.ensures.keeps.fixed (omega (arith, c.if-done-first.false, c.first_run-first.ensures.within))
+
+pub returns-in-Err-clause-never : goal.returns-in-Err-clause-never
+returns-in-Err-clause-never g c =
+    lost_then _ (g.D.Dmi.seen c.args.link.now) (g.D.Dmi.seen c.load_run.new.link) c.in-Err.fault c.load_run.ensures.rises c.in-Err.ensures.never

@@ -3,6 +3,8 @@ use Rattle.std.proofs.Common.{arith, ◌+◌, ◌-◌, ◌*◌, ◌∙◌}
 use Rattle.probe_run.specs.Told.{told}
 use Rattle.probe_access.proofs.BusStreamParts.{end_failed, front_failed, front_read, polls_failed, run_read, start_failed}
 use Rattle.probe_access.proofs.RegisterCalls.{err_failed}
+use Rattle.probe_access.proofs.CommandNever.{lost_behind}
+use Rattle.probe_access.proofs.NeverLemmas.{lost_then}
 use Rattle.probe_access.proofs.bus_runs.run.Goals as goal
 
 pub returns-in_err-start_run-clause-failed : goal.returns-in_err-start_run-clause-failed
@@ -83,3 +85,10 @@ returns-clause-rises g c =
     (c.read_elements.ensures.keeps.fixed ∙ c.start_run.ensures.keeps.fixed) (omega arith))
     c.await_end.ensures.rises
     (c.end_run.ensures.keeps.fixed ∙ c.read_elements.ensures.keeps.fixed ∙ c.start_run.ensures.keeps.fixed) (omega arith)
+
+pub returns-in_err-last-clause-never : goal.returns-in_err-last-clause-never
+returns-in_err-last-clause-never g c =
+    lost_behind c.from_residual-in_err-last.result 3 (g.D.Dmi.seen c.args.link.now) (g.D.Dmi.seen c.start_run.new.link) c.in_err-last.field-0.0 c.from_residual-in_err-last.ensures.1
+    c.start_run.ensures.rises
+    (lost_then _ (g.D.Dmi.seen c.start_run.new.link) (g.D.Dmi.seen c.read_elements.new.link) c.in_err-last.field-0.0 c.read_elements.ensures.rises
+    (lost_then 4 (g.D.Dmi.seen c.read_elements.new.link) (g.D.Dmi.seen c.end_run.new.link) c.in_err-last.field-0.0 c.end_run.ensures.rises c.in_err-last.ensures.never))

@@ -1,5 +1,6 @@
 use Rattle.std.proofs.Common.{◌∙◌, refl, sym, ap, arith}
 use Rattle.debug_model.specs.declared.abstractcs.Abstractcs.{Abstractcs}
+use Rattle.probe_access.proofs.CommandNever.{poll_lost, polls_never}
 use Rattle.probe_access.proofs.PollRises.{few_fails, few_first, few_more, few_polls}
 use Rattle.probe_access.proofs.Polls.{not_false, read_did, started_always, started_broke, started_first, started_more}
 use Rattle.probe_access.proofs.RegisterCalls.{err_failed}
@@ -48,3 +49,11 @@ returns-then-from_word-clause-rises g c = few_polls c.polls._polls c.polls.word 
 
 pub returns-clause-rises : goal.returns-clause-rises
 returns-clause-rises g c = few_polls c.polls._polls c.polls.word _ _ c.polls.invariant.few
+
+pub returns-in_err-word-clause-never : goal.returns-in_err-word-clause-never
+returns-in_err-word-clause-never g c =
+    err_failed c.from_residual.result _ _ c.from_residual.ensures.1
+    (poll_lost c.polls._polls c.polls.word _ _ c.in_err-word.field-0.0 c.polls.invariant.few c.in_err-word.ensures.never)
+
+pub returns-then-from_word-clause-never : goal.returns-then-from_word-clause-never
+returns-then-from_word-clause-never g c = polls_never c.polls._polls c.polls.word _ _ c.polls.invariant.few (omega (arith, c.polls-test.false))

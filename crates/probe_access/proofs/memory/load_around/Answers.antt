@@ -3,6 +3,8 @@ use Rattle.std.proofs.Common.{◌∙◌, arith}
 use Rattle.probe_access.specs.MemoryRuns.LoadRunFailed.{in_save}
 use Rattle.probe_access.proofs.LoadCalls.{load_lost, load_not_taken, load_refused_at, load_refused_lost, perform_loses}
 use Rattle.probe_access.proofs.RegisterCalls.{err_failed}
+use Rattle.probe_access.proofs.CommandNever.{lost_behind}
+use Rattle.probe_access.proofs.NeverLemmas.{lost_then}
 use Rattle.probe_access.proofs.memory.load_around.Goals as goal
 
 pub returns-in_err-x8-clause-failed : goal.returns-in_err-x8-clause-failed
@@ -37,6 +39,7 @@ returns-in_default g c = record {
       (perform_loses _ c.args.address _ _ _ _ c.in-Err.fault c.in_default.not-Memory c.in-Err.ensures.failed);
   rises = within_then 16 10 61 _ (g.D.Dmi.seen c.read_register.new.link) _ c.read_register.ensures.rises c.perform.ensures.rises
       c.read_register.ensures.keeps.fixed (omega arith);
+  never = lost_then _ _ _ c.in-Err.fault c.read_register.ensures.rises c.in-Err.ensures.never;
   keeps = record {
     later = omega (arith, c.read_register.ensures.keeps.later, c.perform.ensures.keeps.later);
     fixed = c.perform.ensures.keeps.fixed ∙ c.read_register.ensures.keeps.fixed;
@@ -67,3 +70,8 @@ returns-in_ok-write_register-in-Memory-clause-rises g c =
     within_then 26 8 61 _ (g.D.Dmi.seen c.perform.new.link) _ (within_then 16 10 26 _ (g.D.Dmi.seen c.read_register.new.link) _ c.read_register.ensures.rises c.perform.ensures.rises
     c.read_register.ensures.keeps.fixed (omega arith)) c.write_register.ensures.rises
     (c.perform.ensures.keeps.fixed ∙ c.read_register.ensures.keeps.fixed) (omega arith)
+
+pub returns-in_err-value-in-Ok-clause-never : goal.returns-in_err-value-in-Ok-clause-never
+returns-in_err-value-in-Ok-clause-never g c =
+    lost_behind c.from_residual-in_err-value-in-Ok.result _ _ _ c.in_err-value-in-Ok.field-0.0 c.from_residual-in_err-value-in-Ok.ensures.1
+    c.read_register.ensures.rises (lost_then _ _ _ c.in_err-value-in-Ok.field-0.0 c.perform.ensures.rises c.in_err-value-in-Ok.ensures.never)

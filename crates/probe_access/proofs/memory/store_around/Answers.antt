@@ -5,6 +5,8 @@ use Rattle.probe_access.specs.MemoryRuns.AroundFailed.{in_save}
 use Rattle.probe_access.proofs.AroundLemmas.{around_gave_up, around_restore}
 use Rattle.probe_access.proofs.Counted.{store_counted}
 use Rattle.probe_access.proofs.RegisterCalls.{err_failed}
+use Rattle.probe_access.proofs.CommandNever.{gave_lost}
+use Rattle.probe_access.proofs.NeverLemmas.{lost_then}
 use Rattle.probe_access.proofs.memory.store_around.Goals as goal
 
 pub returns-in_err-scratch-clause-failed : goal.returns-in_err-scratch-clause-failed
@@ -44,3 +46,8 @@ returns-in-Err-clause-rises g c =
     within_then 50 16 66 _ (g.D.Dmi.seen c.store_inside.new.link) _ (within_then 32 18 50 _ (g.D.Dmi.seen c.save_scratch.new.link) _ c.save_scratch.ensures.rises c.store_inside.ensures.rises
     c.save_scratch.ensures.keeps.fixed (omega arith)) c.give_up.ensures.rises
     (c.store_inside.ensures.keeps.fixed ∙ c.save_scratch.ensures.keeps.fixed) (omega arith)
+
+pub returns-in-Err-clause-never : goal.returns-in-Err-clause-never
+returns-in-Err-clause-never g c =
+    lost_then _ _ _ c.give_up.result c.save_scratch.ensures.rises
+    (gave_lost _ _ _ c.in-Err.fault c.give_up.result c.store_inside.ensures.rises c.in-Err.ensures.never c.give_up.ensures.never)

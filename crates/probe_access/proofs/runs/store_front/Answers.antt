@@ -6,6 +6,8 @@ use Rattle.probe_access.specs.ElementRuns.StoresOn.{first}
 use Rattle.probe_access.proofs.ElementCalls.{start_as, started_as}
 use Rattle.probe_access.proofs.StoreRunCalls.{again_failed, some_least, some_most, stores_again, stores_fell, stores_ran}
 use Rattle.probe_access.proofs.RegisterCalls.{err_failed}
+use Rattle.probe_access.proofs.CommandNever.{lost_behind}
+use Rattle.probe_access.proofs.NeverLemmas.{lost_then}
 use Rattle.probe_access.proofs.runs.store_front.Goals as goal
 
 pub returns-in_err-start_block-clause-failed : goal.returns-in_err-start_block-clause-failed
@@ -156,3 +158,9 @@ pub returns-after-runs-clause-rises : goal.returns-after-runs-clause-rises
 returns-after-runs-clause-rises g c =
     within_more ((25 + 8 * c.runs.done) + c.runs.looks * (7 * c.args.count + 33)) (57 * c.args.count + 256) _ _ c.runs.invariant.rises (stores_end
     c.runs.done c.runs.looks c.args.count c.runs.invariant.most c.runs.invariant.few)
+
+pub returns-in_err-start_block-in-Some-clause-never : goal.returns-in_err-start_block-in-Some-clause-never
+returns-in_err-start_block-in-Some-clause-never g c =
+    lost_behind c.from_residual-in_err-start_block-in-Some.result _ _ _ c.in_err-start_block-in-Some.field-0.0
+    c.from_residual-in_err-start_block-in-Some.ensures.1 c.runs.invariant.rises
+    (lost_then _ _ _ c.in_err-start_block-in-Some.field-0.0 c.run_at.ensures.rises c.in_err-start_block-in-Some.ensures.never)

@@ -4,6 +4,7 @@ use Rattle.probe_access.specs.StepRuns.StepFailed.{at_read, behind}
 use Rattle.probe_access.proofs.RegisterCalls.{err_failed}
 use Rattle.probe_access.proofs.StepClauses.{flag_left, from_counted}
 use Rattle.probe_access.proofs.StepReads.{read_left, read_step, read_step_cut, reading_cut, still_reads}
+use Rattle.probe_access.proofs.CommandNever.{lost_behind}
 use Rattle.probe_access.proofs.single.step.Goals as goal
 
 pub returns-in_err-word-clause-left : goal.returns-in_err-word-clause-left
@@ -63,3 +64,8 @@ pub returns-clause-rises : goal.returns-clause-rises
 returns-clause-rises g c =
     within_then 15 34 49 _ (g.D.Dmi.seen c.read_dcsr.new.link) _ c.read_dcsr.ensures.rises c.step_from.ensures.rises
     c.read_dcsr.ensures.keeps.fixed (omega arith)
+
+pub returns-in_err-again-clause-never : goal.returns-in_err-again-clause-never
+returns-in_err-again-clause-never g c =
+    lost_behind c.from_residual-in_err-again.result 15 (g.D.Dmi.seen c.args.link.now) (g.D.Dmi.seen c.read_dcsr.new.link) c.in_err-again.field-0.0 c.from_residual-in_err-again.ensures.1
+    c.read_dcsr.ensures.rises c.in_err-again.ensures.never

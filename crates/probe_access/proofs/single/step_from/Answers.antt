@@ -13,6 +13,8 @@ use Rattle.std.proofs.Common.{refl}
 use Rattle.probe_access.proofs.RegisterCalls.{err_failed}
 use Rattle.probe_access.proofs.StepClauses.{clear_counted, run_counted, run_left, step_told}
 use Rattle.probe_access.proofs.StepLemmas.{read_keeps}
+use Rattle.probe_access.proofs.CommandNever.{lost_behind}
+use Rattle.probe_access.proofs.NeverLemmas.{lost_then, run_lost}
 use Rattle.probe_access.proofs.single.step_from.Goals as goal
 
 of_same : (h k : ℕ) (old new : Option Far) → h ≡ k → WhereTold (FlaggedAt false h) old new → WhereTold (FlaggedAt false k) old new
@@ -93,3 +95,14 @@ returns-clause-rises g c =
     (c.run_one.ensures.soon (flag_set c.args.halted.number _ _ c.in_ok-set_flag.ensures.flagged_at))
     c.set_flag.ensures.keeps.fixed (omega arith))
     c.clear_flag.ensures.rises (c.run_one.ensures.keeps.fixed ∙ c.set_flag.ensures.keeps.fixed) (omega arith)
+
+pub returns-in_err-again-clause-never : goal.returns-in_err-again-clause-never
+returns-in_err-again-clause-never g c =
+    lost_behind c.from_residual-in_err-again.result 8 (g.D.Dmi.seen c.args.link.now) (g.D.Dmi.seen c.set_flag.new.link) _ c.from_residual-in_err-again.ensures.1 c.set_flag.ensures.rises
+    (run_lost (g.D.Dmi.seen c.set_flag.new.link) c.in_err-again.field-0.0
+    (c.in_err-again.ensures.never (flag_set c.args.halted.number _ _ c.in_ok-set_flag.ensures.flagged_at)))
+
+pub returns-in_err-clear_flag-clause-never : goal.returns-in_err-clear_flag-clause-never
+returns-in_err-clear_flag-clause-never g c =
+    lost_behind c.from_residual-in_err-clear_flag.result 8 (g.D.Dmi.seen c.args.link.now) (g.D.Dmi.seen c.set_flag.new.link) _ c.from_residual-in_err-clear_flag.ensures.1 c.set_flag.ensures.rises
+    (lost_then 65 (g.D.Dmi.seen c.set_flag.new.link) (g.D.Dmi.seen c.run_one.new.link) c.in_err-clear_flag.field-0.0 c.run_one.ensures.rises c.in_err-clear_flag.ensures.never)
