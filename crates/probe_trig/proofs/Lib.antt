@@ -21,3 +21,4 @@ pub mod StepCutLemmas
 pub mod Clear
 pub mod Alone
 pub mod Refusals
+pub mod NeverLemmas

@@ -9,6 +9,8 @@ use Rattle.probe_trig.specs.SlotRegisters.{address_named, word_named}
 use Rattle.probe_trig.proofs.ArmFits.{arms_address, arms_trigger}
 use Rattle.probe_run.proofs.ActLemmas.{if_err}
 use Rattle.probe_trig.proofs.TransferLemmas.{failed_behind, failed_first, made_then}
+use Rattle.probe_access.specs.Never.{NeverLost}
+use Rattle.probe_access.proofs.NeverLemmas.{lost_then}
 use Rattle.probe_trig.proofs.arming.arm_by.Goals as goal
 
 pub returns-in_err-set_address-clause-failed : goal.returns-in_err-set_address-clause-failed
@@ -53,3 +55,9 @@ pub returns-in_err-set_reg-clause-refuses : goal.returns-in_err-set_reg-clause-r
 returns-in_err-set_reg-clause-refuses g c =
     if_err _ c.from_residual-in_err-set_reg.result _ c.from_residual-in_err-set_reg.ensures.1
     (of_tdata1 _ c.in_err-set_reg.ensures.refuses)
+
+pub returns-in_err-set_reg-clause-never : goal.returns-in_err-set_reg-clause-never
+returns-in_err-set_reg-clause-never g c =
+    if_err (NeverLost (g.D.Dmi.seen c.args.link.now)) c.from_residual-in_err-set_reg.result _ c.from_residual-in_err-set_reg.ensures.1
+    (lost_then _ (g.D.Dmi.seen c.args.link.now) (g.D.Dmi.seen c.set_address.new.link) c.in_err-set_reg.field-0.0 c.set_address.ensures.rises
+    c.in_err-set_reg.ensures.never)

@@ -7,6 +7,8 @@ use Rattle.probe_trig.specs.Transfers.Transfer.{Got}
 use Rattle.probe_trig.proofs.ArmFits.{arms_armed, arms_back, arms_keep, arms_none, arms_seek, armed_did, armed_made, none_did, sought_behind, tinfo_of}
 use Rattle.probe_run.proofs.ActLemmas.{if_err}
 use Rattle.probe_trig.proofs.TransferLemmas.{failed_behind, failed_first, made_then}
+use Rattle.probe_access.specs.Never.{NeverLost}
+use Rattle.probe_access.proofs.NeverLemmas.{lost_then}
 use Rattle.probe_trig.proofs.arming.arm_lowest.Goals as goal
 
 pub returns-in_err-kept-clause-failed : goal.returns-in_err-kept-clause-failed
@@ -124,3 +126,31 @@ pub returns-in_err-set_reg-in-None-clause-refuses : goal.returns-in_err-set_reg-
 returns-in_err-set_reg-in-None-clause-refuses g c =
     if_err _ c.from_residual-in_err-set_reg-in-None.result _ c.from_residual-in_err-set_reg-in-None.ensures.1
     (of_tselect _ c.in_err-set_reg-in-None.ensures.refuses)
+
+pub returns-in_err-slot-clause-never : goal.returns-in_err-slot-clause-never
+returns-in_err-slot-clause-never g c =
+    if_err (NeverLost (g.D.Dmi.seen c.args.link.now)) c.from_residual-in_err-slot.result _ c.from_residual-in_err-slot.ensures.1
+    (lost_then _ (g.D.Dmi.seen c.args.link.now) (g.D.Dmi.seen c.reg.new.link) c.in_err-slot.field-0.0 c.reg.ensures.rises c.in_err-slot.ensures.never)
+
+pub returns-in_err-arm_selected-in-Some-clause-never : goal.returns-in_err-arm_selected-in-Some-clause-never
+returns-in_err-arm_selected-in-Some-clause-never g c =
+    if_err (NeverLost (g.D.Dmi.seen c.args.link.now)) c.from_residual-in_err-arm_selected-in-Some.result _
+    c.from_residual-in_err-arm_selected-in-Some.ensures.1
+    (lost_then _ (g.D.Dmi.seen c.args.link.now) (g.D.Dmi.seen c.reg.new.link) c.in_err-arm_selected-in-Some.field-0.0 c.reg.ensures.rises
+    (lost_then _ (g.D.Dmi.seen c.reg.new.link) (g.D.Dmi.seen c.seek_free.new.link) c.in_err-arm_selected-in-Some.field-0.0 c.seek_free.ensures.rises
+    c.in_err-arm_selected-in-Some.ensures.never))
+
+pub returns-in_err-set_reg-in-Some-clause-never : goal.returns-in_err-set_reg-in-Some-clause-never
+returns-in_err-set_reg-in-Some-clause-never g c =
+    if_err (NeverLost (g.D.Dmi.seen c.args.link.now)) c.from_residual-in_err-set_reg-in-Some.result _ c.from_residual-in_err-set_reg-in-Some.ensures.1
+    (lost_then _ (g.D.Dmi.seen c.args.link.now) (g.D.Dmi.seen c.reg.new.link) c.in_err-set_reg-in-Some.field-0.0 c.reg.ensures.rises
+    (lost_then _ (g.D.Dmi.seen c.reg.new.link) (g.D.Dmi.seen c.seek_free.new.link) c.in_err-set_reg-in-Some.field-0.0 c.seek_free.ensures.rises
+    (lost_then _ (g.D.Dmi.seen c.seek_free.new.link) (g.D.Dmi.seen c.arm_selected.new.link) c.in_err-set_reg-in-Some.field-0.0 c.arm_selected.ensures.rises
+    c.in_err-set_reg-in-Some.ensures.never)))
+
+pub returns-in_err-set_reg-in-None-clause-never : goal.returns-in_err-set_reg-in-None-clause-never
+returns-in_err-set_reg-in-None-clause-never g c =
+    if_err (NeverLost (g.D.Dmi.seen c.args.link.now)) c.from_residual-in_err-set_reg-in-None.result _ c.from_residual-in_err-set_reg-in-None.ensures.1
+    (lost_then _ (g.D.Dmi.seen c.args.link.now) (g.D.Dmi.seen c.reg.new.link) c.in_err-set_reg-in-None.field-0.0 c.reg.ensures.rises
+    (lost_then _ (g.D.Dmi.seen c.reg.new.link) (g.D.Dmi.seen c.seek_free.new.link) c.in_err-set_reg-in-None.field-0.0 c.seek_free.ensures.rises
+    c.in_err-set_reg-in-None.ensures.never))

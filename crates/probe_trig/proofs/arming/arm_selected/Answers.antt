@@ -7,6 +7,8 @@ use Rattle.probe_trig.specs.Transfers.{asked}
 use Rattle.probe_trig.proofs.ArmFits.{arms_offered, arms_tinfo, offered_did}
 use Rattle.probe_run.proofs.ActLemmas.{if_err}
 use Rattle.probe_trig.proofs.TransferLemmas.{failed_behind, failed_first}
+use Rattle.probe_access.specs.Never.{NeverLost}
+use Rattle.probe_access.proofs.NeverLemmas.{lost_then}
 use Rattle.probe_trig.proofs.arming.arm_selected.Goals as goal
 
 pub returns-in_err-tinfo-clause-failed : goal.returns-in_err-tinfo-clause-failed
@@ -50,3 +52,9 @@ pub returns-in_err-arm_by-clause-refuses : goal.returns-in_err-arm_by-clause-ref
 returns-in_err-arm_by-clause-refuses g c =
     if_err _ c.from_residual-in_err-arm_by.result _ c.from_residual-in_err-arm_by.ensures.1
     (c.in_err-arm_by.ensures.refuses)
+
+pub returns-in_err-arm_by-clause-never : goal.returns-in_err-arm_by-clause-never
+returns-in_err-arm_by-clause-never g c =
+    if_err (NeverLost (g.D.Dmi.seen c.args.link.now)) c.from_residual-in_err-arm_by.result _ c.from_residual-in_err-arm_by.ensures.1
+    (lost_then _ (g.D.Dmi.seen c.args.link.now) (g.D.Dmi.seen c.reg_or_none.new.link) c.in_err-arm_by.field-0.0 c.reg_or_none.ensures.rises
+    c.in_err-arm_by.ensures.never)

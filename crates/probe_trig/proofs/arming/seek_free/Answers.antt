@@ -4,6 +4,8 @@ use Rattle.probe_trig.specs.Runs.{words_read}
 use Rattle.probe_trig.proofs.ArmFits.{seeks_word, sought_all, sought_found, sought_more, sought_none}
 use Rattle.probe_run.proofs.ActLemmas.{if_err}
 use Rattle.probe_trig.proofs.TransferLemmas.{failed_behind}
+use Rattle.probe_access.specs.Never.{NeverLost}
+use Rattle.probe_access.proofs.NeverLemmas.{lost_then}
 use Rattle.probe_trig.proofs.arming.seek_free.Goals as goal
 
 pub seeking-init : goal.seeking-init
@@ -66,3 +68,9 @@ pub returns-in_err-tdata1-clause-refuses : goal.returns-in_err-tdata1-clause-ref
 returns-in_err-tdata1-clause-refuses g c =
     if_err _ c.from_residual.result _ c.from_residual.ensures.1
     (c.in_err-tdata1.ensures.refuses)
+
+pub returns-in_err-tdata1-clause-never : goal.returns-in_err-tdata1-clause-never
+returns-in_err-tdata1-clause-never g c =
+    if_err (NeverLost (g.D.Dmi.seen c.args.link.now)) c.from_residual.result _ c.from_residual.ensures.1
+    (lost_then _ (g.D.Dmi.seen c.args.link.now) (g.D.Dmi.seen c.seeking.link) c.in_err-tdata1.field-0.0 c.seeking.invariant.rises
+    c.in_err-tdata1.ensures.never)

@@ -6,6 +6,8 @@ use Rattle.probe_trig.specs.Transfers.Transfer.{Got}
 use Rattle.probe_trig.proofs.ArmFits.{frees_back, frees_keep, frees_none, frees_set, frees_word}
 use Rattle.probe_run.proofs.ActLemmas.{if_err}
 use Rattle.probe_trig.proofs.TransferLemmas.{failed_behind, failed_first, made_then}
+use Rattle.probe_access.specs.Never.{NeverLost}
+use Rattle.probe_access.proofs.NeverLemmas.{lost_then}
 use Rattle.probe_trig.proofs.disarming.free.Goals as goal
 
 pub returns-in_err-kept-clause-failed : goal.returns-in_err-kept-clause-failed
@@ -110,3 +112,30 @@ returns-clause-rises g c =
     c.reg.ensures.keeps.fixed (omega arith)) c.set_reg-2.ensures.rises
     (c.read_word.ensures.keeps.fixed ∙ c.reg.ensures.keeps.fixed) (omega arith)) c.set_reg-3.ensures.rises
     (c.set_reg-2.ensures.keeps.fixed ∙ c.read_word.ensures.keeps.fixed ∙ c.reg.ensures.keeps.fixed) (omega arith)
+
+pub returns-in_err-tdata1-clause-never : goal.returns-in_err-tdata1-clause-never
+returns-in_err-tdata1-clause-never g c =
+    if_err (NeverLost (g.D.Dmi.seen c.args.link.now)) c.from_residual-in_err-tdata1.result _ c.from_residual-in_err-tdata1.ensures.1
+    (lost_then _ (g.D.Dmi.seen c.args.link.now) (g.D.Dmi.seen c.reg.new.link) c.in_err-tdata1.field-0.0 c.reg.ensures.rises c.in_err-tdata1.ensures.never)
+
+pub returns-in_err-set_reg-clause-never : goal.returns-in_err-set_reg-clause-never
+returns-in_err-set_reg-clause-never g c =
+    if_err (NeverLost (g.D.Dmi.seen c.args.link.now)) c.from_residual-in_err-set_reg.result _ c.from_residual-in_err-set_reg.ensures.1
+    (lost_then _ (g.D.Dmi.seen c.args.link.now) (g.D.Dmi.seen c.reg.new.link) c.in_err-set_reg.field-0.0 c.reg.ensures.rises
+    (lost_then _ (g.D.Dmi.seen c.reg.new.link) (g.D.Dmi.seen c.read_word.new.link) c.in_err-set_reg.field-0.0 c.read_word.ensures.rises
+    c.in_err-set_reg.ensures.never))
+
+pub returns-in_err-set_reg-2-clause-never : goal.returns-in_err-set_reg-2-clause-never
+returns-in_err-set_reg-2-clause-never g c =
+    if_err (NeverLost (g.D.Dmi.seen c.args.link.now)) c.from_residual-in_err-set_reg-2.result _ c.from_residual-in_err-set_reg-2.ensures.1
+    (lost_then _ (g.D.Dmi.seen c.args.link.now) (g.D.Dmi.seen c.reg.new.link) c.in_err-set_reg-2.field-0.0 c.reg.ensures.rises
+    (lost_then _ (g.D.Dmi.seen c.reg.new.link) (g.D.Dmi.seen c.read_word.new.link) c.in_err-set_reg-2.field-0.0 c.read_word.ensures.rises
+    c.in_err-set_reg-2.ensures.never))
+
+pub returns-in_err-set_reg-3-clause-never : goal.returns-in_err-set_reg-3-clause-never
+returns-in_err-set_reg-3-clause-never g c =
+    if_err (NeverLost (g.D.Dmi.seen c.args.link.now)) c.from_residual-in_err-set_reg-3.result _ c.from_residual-in_err-set_reg-3.ensures.1
+    (lost_then _ (g.D.Dmi.seen c.args.link.now) (g.D.Dmi.seen c.reg.new.link) c.in_err-set_reg-3.field-0.0 c.reg.ensures.rises
+    (lost_then _ (g.D.Dmi.seen c.reg.new.link) (g.D.Dmi.seen c.read_word.new.link) c.in_err-set_reg-3.field-0.0 c.read_word.ensures.rises
+    (lost_then _ (g.D.Dmi.seen c.read_word.new.link) (g.D.Dmi.seen c.set_reg-2.new.link) c.in_err-set_reg-3.field-0.0 c.set_reg-2.ensures.rises
+    c.in_err-set_reg-3.ensures.never)))

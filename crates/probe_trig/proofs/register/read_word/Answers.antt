@@ -6,6 +6,8 @@ use Rattle.probe_trig.specs.Transfers.Transfer.{Got, Set}
 use Rattle.probe_trig.proofs.Fitting.{word_gets, word_selects}
 use Rattle.probe_run.proofs.ActLemmas.{if_err}
 use Rattle.probe_trig.proofs.TransferLemmas.{failed_behind, failed_first, made_then}
+use Rattle.probe_access.specs.Never.{NeverLost}
+use Rattle.probe_access.proofs.NeverLemmas.{lost_then}
 use Rattle.probe_trig.proofs.register.read_word.Goals as goal
 
 pub returns-in_err-set_reg-clause-failed : goal.returns-in_err-set_reg-clause-failed
@@ -47,3 +49,9 @@ pub returns-in_err-tdata1-clause-refuses : goal.returns-in_err-tdata1-clause-ref
 returns-in_err-tdata1-clause-refuses g c =
     if_err _ c.from_residual-in_err-tdata1.result _ c.from_residual-in_err-tdata1.ensures.1
     (of_tdata1 _ c.in_err-tdata1.ensures.refuses)
+
+pub returns-in_err-tdata1-clause-never : goal.returns-in_err-tdata1-clause-never
+returns-in_err-tdata1-clause-never g c =
+    if_err (NeverLost (g.D.Dmi.seen c.args.link.now)) c.from_residual-in_err-tdata1.result _ c.from_residual-in_err-tdata1.ensures.1
+    (lost_then _ (g.D.Dmi.seen c.args.link.now) (g.D.Dmi.seen c.set_reg.new.link) c.in_err-tdata1.field-0.0 c.set_reg.ensures.rises
+    c.in_err-tdata1.ensures.never)

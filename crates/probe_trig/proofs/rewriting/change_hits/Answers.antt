@@ -6,6 +6,8 @@ use Rattle.probe_trig.specs.Transfers.Transfer.{Got}
 use Rattle.probe_trig.proofs.Fitting.{changes_0, changes_1, changes_2, changes_3, changes_back, changes_keep}
 use Rattle.probe_run.proofs.ActLemmas.{if_err}
 use Rattle.probe_trig.proofs.TransferLemmas.{failed_behind, failed_first, made_then}
+use Rattle.probe_access.specs.Never.{NeverLost}
+use Rattle.probe_access.proofs.NeverLemmas.{lost_then}
 use Rattle.probe_trig.proofs.rewriting.change_hits.Goals as goal
 
 pub returns-in_err-kept-clause-failed : goal.returns-in_err-kept-clause-failed
@@ -159,3 +161,42 @@ returns-clause-rises g c =
     (c.change_slot-2.ensures.keeps.fixed ∙ c.change_slot.ensures.keeps.fixed ∙ c.reg.ensures.keeps.fixed) (omega arith)) c.change_slot-4.ensures.rises
     (c.change_slot-3.ensures.keeps.fixed ∙ c.change_slot-2.ensures.keeps.fixed ∙ c.change_slot.ensures.keeps.fixed ∙ c.reg.ensures.keeps.fixed) (omega arith)) c.set_reg.ensures.rises
     (c.change_slot-4.ensures.keeps.fixed ∙ c.change_slot-3.ensures.keeps.fixed ∙ c.change_slot-2.ensures.keeps.fixed ∙ c.change_slot.ensures.keeps.fixed ∙ c.reg.ensures.keeps.fixed) (omega arith)
+
+pub returns-in_err-a-clause-never : goal.returns-in_err-a-clause-never
+returns-in_err-a-clause-never g c =
+    if_err (NeverLost (g.D.Dmi.seen c.args.link.now)) c.from_residual-in_err-a.result _ c.from_residual-in_err-a.ensures.1
+    (lost_then _ (g.D.Dmi.seen c.args.link.now) (g.D.Dmi.seen c.reg.new.link) c.in_err-a.field-0.0 c.reg.ensures.rises c.in_err-a.ensures.never)
+
+pub returns-in_err-b-clause-never : goal.returns-in_err-b-clause-never
+returns-in_err-b-clause-never g c =
+    if_err (NeverLost (g.D.Dmi.seen c.args.link.now)) c.from_residual-in_err-b.result _ c.from_residual-in_err-b.ensures.1
+    (lost_then _ (g.D.Dmi.seen c.args.link.now) (g.D.Dmi.seen c.reg.new.link) c.in_err-b.field-0.0 c.reg.ensures.rises
+    (lost_then _ (g.D.Dmi.seen c.reg.new.link) (g.D.Dmi.seen c.change_slot.new.link) c.in_err-b.field-0.0 c.change_slot.ensures.rises
+    c.in_err-b.ensures.never))
+
+pub returns-in_err-c-clause-never : goal.returns-in_err-c-clause-never
+returns-in_err-c-clause-never g c =
+    if_err (NeverLost (g.D.Dmi.seen c.args.link.now)) c.from_residual-in_err-c.result _ c.from_residual-in_err-c.ensures.1
+    (lost_then _ (g.D.Dmi.seen c.args.link.now) (g.D.Dmi.seen c.reg.new.link) c.in_err-c.field-0.0 c.reg.ensures.rises
+    (lost_then _ (g.D.Dmi.seen c.reg.new.link) (g.D.Dmi.seen c.change_slot.new.link) c.in_err-c.field-0.0 c.change_slot.ensures.rises
+    (lost_then _ (g.D.Dmi.seen c.change_slot.new.link) (g.D.Dmi.seen c.change_slot-2.new.link) c.in_err-c.field-0.0 c.change_slot-2.ensures.rises
+    c.in_err-c.ensures.never)))
+
+pub returns-in_err-d-clause-never : goal.returns-in_err-d-clause-never
+returns-in_err-d-clause-never g c =
+    if_err (NeverLost (g.D.Dmi.seen c.args.link.now)) c.from_residual-in_err-d.result _ c.from_residual-in_err-d.ensures.1
+    (lost_then _ (g.D.Dmi.seen c.args.link.now) (g.D.Dmi.seen c.reg.new.link) c.in_err-d.field-0.0 c.reg.ensures.rises
+    (lost_then _ (g.D.Dmi.seen c.reg.new.link) (g.D.Dmi.seen c.change_slot.new.link) c.in_err-d.field-0.0 c.change_slot.ensures.rises
+    (lost_then _ (g.D.Dmi.seen c.change_slot.new.link) (g.D.Dmi.seen c.change_slot-2.new.link) c.in_err-d.field-0.0 c.change_slot-2.ensures.rises
+    (lost_then _ (g.D.Dmi.seen c.change_slot-2.new.link) (g.D.Dmi.seen c.change_slot-3.new.link) c.in_err-d.field-0.0 c.change_slot-3.ensures.rises
+    c.in_err-d.ensures.never))))
+
+pub returns-in_err-set_reg-clause-never : goal.returns-in_err-set_reg-clause-never
+returns-in_err-set_reg-clause-never g c =
+    if_err (NeverLost (g.D.Dmi.seen c.args.link.now)) c.from_residual-in_err-set_reg.result _ c.from_residual-in_err-set_reg.ensures.1
+    (lost_then _ (g.D.Dmi.seen c.args.link.now) (g.D.Dmi.seen c.reg.new.link) c.in_err-set_reg.field-0.0 c.reg.ensures.rises
+    (lost_then _ (g.D.Dmi.seen c.reg.new.link) (g.D.Dmi.seen c.change_slot.new.link) c.in_err-set_reg.field-0.0 c.change_slot.ensures.rises
+    (lost_then _ (g.D.Dmi.seen c.change_slot.new.link) (g.D.Dmi.seen c.change_slot-2.new.link) c.in_err-set_reg.field-0.0 c.change_slot-2.ensures.rises
+    (lost_then _ (g.D.Dmi.seen c.change_slot-2.new.link) (g.D.Dmi.seen c.change_slot-3.new.link) c.in_err-set_reg.field-0.0 c.change_slot-3.ensures.rises
+    (lost_then _ (g.D.Dmi.seen c.change_slot-3.new.link) (g.D.Dmi.seen c.change_slot-4.new.link) c.in_err-set_reg.field-0.0 c.change_slot-4.ensures.rises
+    c.in_err-set_reg.ensures.never)))))

@@ -4,6 +4,8 @@ use Rattle.probe_trig.specs.Runs.{word_read}
 use Rattle.probe_trig.proofs.Fitting.{changed_sets, changed_words, changed_made, unchanged_made}
 use Rattle.probe_run.proofs.ActLemmas.{if_err}
 use Rattle.probe_trig.proofs.TransferLemmas.{failed_behind, failed_first}
+use Rattle.probe_access.specs.Never.{NeverLost}
+use Rattle.probe_access.proofs.NeverLemmas.{lost_then}
 use Rattle.probe_trig.proofs.rewriting.change_slot.Goals as goal
 
 pub returns-in_err-tdata1-clause-failed : goal.returns-in_err-tdata1-clause-failed
@@ -46,3 +48,9 @@ pub returns-clause-rises : goal.returns-clause-rises
 returns-clause-rises g c =
     within_then 24 8 32 _ (g.D.Dmi.seen c.read_word.new.link) _ c.read_word.ensures.rises c.set_reg.ensures.rises
     c.read_word.ensures.keeps.fixed (omega arith)
+
+pub returns-in_err-set_reg-clause-never : goal.returns-in_err-set_reg-clause-never
+returns-in_err-set_reg-clause-never g c =
+    if_err (NeverLost (g.D.Dmi.seen c.args.link.now)) c.from_residual-in_err-set_reg.result _ c.from_residual-in_err-set_reg.ensures.1
+    (lost_then _ (g.D.Dmi.seen c.args.link.now) (g.D.Dmi.seen c.read_word.new.link) c.in_err-set_reg.field-0.0 c.read_word.ensures.rises
+    c.in_err-set_reg.ensures.never)

@@ -8,6 +8,9 @@ use Rattle.probe_trig.proofs.OverFaults.{back_counted, over_go, resume_counted, 
 use Rattle.probe_trig.proofs.Overs.{back_is, free_at, held_at, over_as, stepped_is, stopped_at, through_none, through_over}
 use Rattle.probe_run.proofs.ActLemmas.{if_err}
 use Rattle.probe_trig.proofs.Untold.{failed_left}
+use Rattle.probe_access.proofs.NeverLemmas.{lost_then, run_lost}
+use Rattle.probe_trig.specs.Never.{SlotNeverLost}
+use Rattle.probe_access.specs.StepRuns.{of_run}
 use Rattle.probe_trig.proofs.stepping.let_go.Goals as goal
 
 pub returns-in_err-some-clause-left : goal.returns-in_err-some-clause-left
@@ -165,3 +168,22 @@ returns-clause-rises g c =
     within_then 369 2 371 _ (g.D.Dmi.seen c.step_back.new.link) _ (within_then 152 217 369 _ (g.D.Dmi.seen c.change_hits.new.link) _ c.change_hits.ensures.rises c.step_back.ensures.rises
     c.change_hits.ensures.keeps.fixed (omega arith)) c.resume-2.ensures.rises
     (c.step_back.ensures.keeps.fixed ∙ c.change_hits.ensures.keeps.fixed) (omega arith)
+
+pub returns-in_err-running-clause-never : goal.returns-in_err-running-clause-never
+returns-in_err-running-clause-never g c =
+    if_err (SlotNeverLost (g.D.Dmi.seen c.args.link.now)) c.from_residual-in_err-running.result _ c.from_residual-in_err-running.ensures.1
+    (lost_then _ (g.D.Dmi.seen c.args.link.now) (g.D.Dmi.seen c.change_hits.new.link) (of_run c.in_err-running.field-0.0) c.change_hits.ensures.rises
+    (run_lost (g.D.Dmi.seen c.change_hits.new.link) c.in_err-running.field-0.0 c.in_err-running.ensures.never))
+
+pub returns-in_err-stepped-clause-never : goal.returns-in_err-stepped-clause-never
+returns-in_err-stepped-clause-never g c =
+    if_err (SlotNeverLost (g.D.Dmi.seen c.args.link.now)) c.from_residual-in_err-stepped.result _ c.from_residual-in_err-stepped.ensures.1
+    (lost_then _ (g.D.Dmi.seen c.args.link.now) (g.D.Dmi.seen c.change_hits.new.link) c.in_err-stepped.field-0.0 c.change_hits.ensures.rises
+    c.in_err-stepped.ensures.never)
+
+pub returns-in_err-running-2-clause-never : goal.returns-in_err-running-2-clause-never
+returns-in_err-running-2-clause-never g c =
+    if_err (SlotNeverLost (g.D.Dmi.seen c.args.link.now)) c.from_residual-in_err-running-2.result _ c.from_residual-in_err-running-2.ensures.1
+    (lost_then _ (g.D.Dmi.seen c.args.link.now) (g.D.Dmi.seen c.change_hits.new.link) (of_run c.in_err-running-2.field-0.0) c.change_hits.ensures.rises
+    (lost_then _ (g.D.Dmi.seen c.change_hits.new.link) (g.D.Dmi.seen c.step_back.new.link) (of_run c.in_err-running-2.field-0.0) c.step_back.ensures.rises
+    (run_lost (g.D.Dmi.seen c.step_back.new.link) c.in_err-running-2.field-0.0 c.in_err-running-2.ensures.never)))

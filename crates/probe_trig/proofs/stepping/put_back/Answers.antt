@@ -6,6 +6,8 @@ use Rattle.probe_trig.proofs.Calls.{changed_any}
 use Rattle.probe_trig.proofs.EndFits.{ends_changes, ends_did, ends_word}
 use Rattle.probe_run.proofs.ActLemmas.{if_err}
 use Rattle.probe_trig.proofs.TransferLemmas.{failed_behind, failed_first}
+use Rattle.probe_access.specs.Never.{NeverLost}
+use Rattle.probe_access.proofs.NeverLemmas.{lost_then}
 use Rattle.probe_trig.proofs.stepping.put_back.Goals as goal
 
 pub returns-in_err-word-clause-failed : goal.returns-in_err-word-clause-failed
@@ -36,3 +38,8 @@ pub returns-clause-rises : goal.returns-clause-rises
 returns-clause-rises g c =
     within_then 16 152 168 _ (g.D.Dmi.seen c.reg.new.link) _ c.reg.ensures.rises c.change_hits.ensures.rises
     c.reg.ensures.keeps.fixed (omega arith)
+
+pub returns-in_err-_some-clause-never : goal.returns-in_err-_some-clause-never
+returns-in_err-_some-clause-never g c =
+    if_err (NeverLost (g.D.Dmi.seen c.args.link.now)) c.from_residual-in_err-_some.result _ c.from_residual-in_err-_some.ensures.1
+    (lost_then _ (g.D.Dmi.seen c.args.link.now) (g.D.Dmi.seen c.reg.new.link) c.in_err-_some.field-0.0 c.reg.ensures.rises c.in_err-_some.ensures.never)

@@ -7,6 +7,8 @@ use Rattle.probe_trig.proofs.OverFaults.{failed_counted}
 use Rattle.probe_trig.proofs.Overs.{at_back, back_at, steps_at}
 use Rattle.probe_run.proofs.ActLemmas.{if_err}
 use Rattle.probe_trig.proofs.Untold.{failed_left}
+use Rattle.probe_access.specs.Never.{NeverLost}
+use Rattle.probe_access.proofs.NeverLemmas.{lost_then}
 use Rattle.probe_trig.proofs.stepping.step_back.Goals as goal
 
 pub returns-in_err-again-clause-failed : goal.returns-in_err-again-clause-failed
@@ -57,3 +59,9 @@ pub returns-clause-rises : goal.returns-clause-rises
 returns-clause-rises g c =
     within_then 49 168 217 _ (g.D.Dmi.seen c.step.new.link) _ c.step.ensures.rises c.put_back.ensures.rises
     c.step.ensures.keeps.fixed (omega arith)
+
+pub returns-in_err-executed-clause-never : goal.returns-in_err-executed-clause-never
+returns-in_err-executed-clause-never g c =
+    if_err (NeverLost (g.D.Dmi.seen c.args.link.now)) c.from_residual-in_err-executed.result _ c.from_residual-in_err-executed.ensures.1
+    (lost_then _ (g.D.Dmi.seen c.args.link.now) (g.D.Dmi.seen c.step.new.link) c.in_err-executed.field-0.0 c.step.ensures.rises
+    c.in_err-executed.ensures.never)

@@ -6,6 +6,8 @@ use Rattle.probe_trig.proofs.OverFaults.{back_counted, scratch_over, step_over_l
 use Rattle.probe_trig.proofs.Overs.{at_as, held_at, over_as}
 use Rattle.probe_run.proofs.ActLemmas.{if_err}
 use Rattle.probe_trig.proofs.Untold.{failed_left}
+use Rattle.probe_access.proofs.NeverLemmas.{lost_then}
+use Rattle.probe_trig.specs.Never.{SlotNeverLost}
 use Rattle.probe_trig.proofs.stepping.step_over.Goals as goal
 
 pub returns-in_err-_some-clause-left : goal.returns-in_err-_some-clause-left
@@ -69,3 +71,9 @@ pub returns-clause-rises : goal.returns-clause-rises
 returns-clause-rises g c =
     within_then 152 217 369 _ (g.D.Dmi.seen c.change_hits.new.link) _ c.change_hits.ensures.rises c.step_back.ensures.rises
     c.change_hits.ensures.keeps.fixed (omega arith)
+
+pub returns-in_err-stepped-clause-never : goal.returns-in_err-stepped-clause-never
+returns-in_err-stepped-clause-never g c =
+    if_err (SlotNeverLost (g.D.Dmi.seen c.args.link.now)) c.from_residual-in_err-stepped.result _ c.from_residual-in_err-stepped.ensures.1
+    (lost_then _ (g.D.Dmi.seen c.args.link.now) (g.D.Dmi.seen c.change_hits.new.link) c.in_err-stepped.field-0.0 c.change_hits.ensures.rises
+    c.in_err-stepped.ensures.never)

@@ -6,6 +6,8 @@ use Rattle.probe_trig.specs.Transfers.Transfer.{Got}
 use Rattle.probe_trig.proofs.Fitting.{slot_gets, slot_words}
 use Rattle.probe_run.proofs.ActLemmas.{if_err}
 use Rattle.probe_trig.proofs.TransferLemmas.{failed_behind, failed_first, made_then}
+use Rattle.probe_access.specs.Never.{NeverLost}
+use Rattle.probe_access.proofs.NeverLemmas.{lost_then}
 use Rattle.probe_trig.proofs.viewing.read_slot.Goals as goal
 
 pub returns-in_err-tdata1-clause-failed : goal.returns-in_err-tdata1-clause-failed
@@ -36,3 +38,9 @@ pub returns-clause-rises : goal.returns-clause-rises
 returns-clause-rises g c =
     within_then 24 16 40 _ (g.D.Dmi.seen c.read_word.new.link) _ c.read_word.ensures.rises c.reg.ensures.rises
     c.read_word.ensures.keeps.fixed (omega arith)
+
+pub returns-in_err-tdata2-clause-never : goal.returns-in_err-tdata2-clause-never
+returns-in_err-tdata2-clause-never g c =
+    if_err (NeverLost (g.D.Dmi.seen c.args.link.now)) c.from_residual-in_err-tdata2.result _ c.from_residual-in_err-tdata2.ensures.1
+    (lost_then _ (g.D.Dmi.seen c.args.link.now) (g.D.Dmi.seen c.read_word.new.link) c.in_err-tdata2.field-0.0 c.read_word.ensures.rises
+    c.in_err-tdata2.ensures.never)
