@@ -1,4 +1,4 @@
-use Rattle.std.proofs.Common.{refl, rules, tt}
+use Rattle.std.proofs.Common.{refl, rules}
 use Rattle.jtag_run.proofs.BenchEnds.{on_bench_by}
 use Rattle.jtag_run.specs.Sequel.Sequel.{of_elf}
 use Rattle.jtag_run.proofs.elf_sessions.run_elf_on_bench.Goals as goal
