@@ -1,8 +1,9 @@
 -- A session on the bench's own chip whose run need not fail goes along its plan to an end.
-use Rattle.std.proofs.Common.{◌≡◌, ◌∙◌, ◌⊎◌, ◌<◌, ℕ, Bool, true, false, List, [], Option, Some, refl, sym, subst, inl, inr, arith}
+use Rattle.std.proofs.Common.{◌≡◌, ◌∙◌, ◌<◌, ℕ, Bool, true, false, List, [], Option, Some, None, IfSome, refl, sym, subst, inl, inr, arith}
 use Rattle.std.proofs.lemmas.Bool.{false≢true}
 use Rattle.abstract_debugger.specs.Plan.{Plan}
 use Rattle.chip_core.specs.Feeds.{limit_met}
+use Rattle.chip_laws.proofs.Pace.{loaded_paced}
 use Rattle.command_line.specs.declared.job.Way.{Way}
 use Rattle.command_line.specs.declared.job.Way.TheVariants.{Looped}
 use Rattle.debug_model.specs.Chip.{Live}
@@ -11,15 +12,16 @@ use Rattle.debug_model.specs.Told.{Far, chip_of, read_out}
 use Rattle.debug_model.specs.declared.command.Command.{Command}
 use Rattle.debug_model.specs.declared.wire.WireFault.{WireFault}
 use Rattle.jt_base.specs.Faults.{Rises}
+use Rattle.jtag_run.proofs.ChainEnds.{is_loaded}
 use Rattle.jtag_run.specs.Ending.{ClosedBy}
 use Rattle.jtag_run.specs.Ends.{BenchEndBy, GenEnd, taken_seen}
 use Rattle.jtag_run.specs.Ends.GenEnd.{summed, unjoined, unsummed}
 use Rattle.jtag_run.specs.Outside.{NetSeen}
 use Rattle.jtag_run.specs.Sequel.{Sequel, sequel_plan}
 use Rattle.jtag_run.specs.Sequel.Sequel.{of_script}
-use Rattle.jtag_run.specs.Sessions.{Carried, OnBench, OnBenchBy, at_bench}
+use Rattle.jtag_run.specs.Sessions.{Carried, IsLoadedBench, OnBench, OnBenchBy, at_bench}
 use Rattle.jtag_run.specs.Sessions.Carried.{chained, over_net, straight}
-use Rattle.jtag_run.specs.Succeeds.{GoesToEnd, IsOnBench}
+use Rattle.jtag_run.specs.Succeeds.{IsOnBench, ReachesEnd, WithSucceeds}
 use Rattle.jtag_run.specs.declared.status.Status.{Status}
 use Rattle.jtag_run.specs.declared.status.Status.TheVariants as status_as
 use Rattle.probe_session.specs.Causes.{SinkCaused}
@@ -81,11 +83,11 @@ is_whole first sequel was is bench limit (ends.Lost why) s paced below put =
 is_whole first sequel was is bench limit ends.Sink s paced below put = absurd (put refl)
 
 pub status_by : (closed : End) (limit : Bool) (mid new : SinkSeen) (status : Status) → limit ≡ false → IsWhole closed → ClosedBy closed limit mid new status
-    → GoesToEnd status
+    → ReachesEnd status
 status_by ends.Clean true mid new status below whole t = absurd (false≢true (sym below))
 status_by ends.Clean false mid new status below whole t = inl t.0
 status_by ends.WithErrors true mid new status below whole t = absurd (false≢true (sym below))
-status_by ends.WithErrors false mid new status below whole t = inr (inl t.0)
+status_by ends.WithErrors false mid new status below whole t = inr t.0
 status_by (ends.Target fault) limit mid new status below whole t = absurd whole
 status_by (ends.Wire why) limit mid new status below whole t = absurd whole
 status_by (ends.Lost why) limit mid new status below whole t = absurd whole
@@ -100,11 +102,21 @@ not_sink closed limit old mid new status caused t quiet is =
     quiet (subst (λ (s : SinkSeen). Rises old.faults s.faults) (sym last.1) (subst (λ e. SinkCaused old.faults mid.faults e) is caused))
 
 pub bench_succeeds : (first : Live) (sequel : Sequel) (old new : SinkSeen) (left : Option Live) (status : Status) → BenchEndBy first sequel old new left status
-    → Paced first.chip.inside → limit_met left ≡ false → (Rises old.faults new.faults → ⊥) → GoesToEnd status
+    → Paced first.chip.inside → limit_met left ≡ false → (Rises old.faults new.faults → ⊥) → ReachesEnd status
 bench_succeeds first sequel old new left status b paced below quiet =
     status_by b.closed (limit_met left) b.behind new status below
     (is_whole first sequel old b.behind left (limit_met left) b.closed b.ran paced below
     (not_sink b.closed (limit_met left) old b.behind new status b.ran.session.sink_cause b.told quiet)) b.told
+
+-- a session on any chip that was as it was loaded
+pub with_succeeds : (old left : Option Live) (script : List Command) (was mid is : SinkSeen) (closed : End) (status : Status) → IsLoadedBench old
+    → IfSome old (λ first. OnBench first script was mid left (limit_met left) closed) → ClosedBy closed (limit_met left) mid is status
+    → IfSome old (λ first. WithSucceeds first was is left status)
+with_succeeds None left script was mid is closed status loaded ran told = tt
+with_succeeds (Some first) left script was mid is closed status loaded ran told = λ fair quiet below.
+    status_by closed (limit_met left) mid is status below
+    (is_whole first (of_script script) was mid left (limit_met left) closed ran (loaded_paced first (is_loaded (Some first) loaded) fair) below
+    (not_sink closed (limit_met left) was mid is status ran.session.sink_cause told quiet)) told
 
 -- ---- a session that is made from a number
 
@@ -125,7 +137,7 @@ carried_on way first script net_was net_is was is left limit closed on (over_net
 
 pub number_succeeds : (way : Way) (first : Live) (script : List Command) (net_was net_is : NetSeen) (old new : SinkSeen) (left : Option Live) (status : Status)
     → GenEnd way first script net_was net_is old new left status → IsOnBench way → Paced first.chip.inside → limit_met left ≡ false
-    → (Rises old.faults new.faults → ⊥) → GoesToEnd status
+    → (Rises old.faults new.faults → ⊥) → ReachesEnd status
 number_succeeds way first script net_was net_is old new left status (unjoined fault u was is) on paced below quiet = absurd (on_bench_loops way on u.loops)
 number_succeeds way first script net_was net_is old new left status (summed taken closed mid counted put later told) on paced below quiet =
     let s : OnBench first script (taken_seen []) (taken_seen taken) left (limit_met left) closed =

@@ -23,7 +23,8 @@ from_start P seen old mid none same zero holds = subst (λ m. P (wired 0 (seen m
 pub on_net : {A : Type 0} (seen : A → NetSeen) (old mid new : A) (script : List Command) (none bad : ℕ) (was is : SinkSeen) (closed : End)
     → mid ≡ old → none ≡ 0 → WireSession script (wired none (seen mid)) (wired bad (seen new)) was is closed
     → WireUpTo script (wired none (seen mid)) (wired bad (seen new)) was is closed
-    → EndsInTime (seen mid).state.chip closed → (seen new).state.ties ≡ (seen mid).state.ties → Sound (seen new).state bad → OnNet script (seen old) (seen new) was is closed
+    → EndsInTime (seen mid).state.chip closed
+    → (seen new).state.ties ≡ (seen mid).state.ties → Sound (seen new).state bad → OnNet script (seen old) (seen new) was is closed
 on_net seen old mid new script none bad was is closed same zero went up_to in_time ties sound = record {
   bad_answers = bad;
   session = from_start (λ wire. WireSession script wire (wired bad (seen new)) was is closed) seen old mid none same zero went;

@@ -163,7 +163,8 @@ refused_words words old new bench status refusal cause was files net blank = ref
 
 pub run_both : (words : List (List ℕ)) (old new : Outside) (bench left : Option Live) (status : Status) (job : Both) → job_of words ≡ Some (said_both job)
     → OptionsInRange job.options → bench ≡ None → RanBoth job old new bench left status → Ran words old new left status
-run_both words old new bench left status job is ranges blank (both_unready refusal cause was net kept) = refused refusal (of_both job is cause) was net (kept ∙ blank)
+run_both words old new bench left status job is ranges blank (both_unready refusal cause was net kept) =
+    refused refusal (of_both job is cause) was net (kept ∙ blank)
 run_both words old new bench left status job is ranges blank (both_done commands image script holds loads asked ended stays) =
     ran job commands image
     (record { words_write = is; script_reads = script; image_is = holds; loads = loads; fair = seed_fair job.options image ranges loads }) asked ended stays

@@ -1,5 +1,5 @@
 -- What a run has that need not fail, by what it did.
-use Rattle.std.proofs.Common.{◌≡◌, ◌∙◌, ℕ, false, List, [], Option, Some, None, IfSome, refl, sym, subst, inr}
+use Rattle.std.proofs.Common.{◌≡◌, ◌∙◌, ℕ, false, List, [], Option, Some, None, IfSome, refl, sym, subst, inl, inr}
 use Rattle.std.specs.Prelude.{IsSome}
 use Rattle.std.proofs.lemmas.Bool.{false≢true}
 use Rattle.std.proofs.lemmas.Option.{same_Some}
@@ -57,19 +57,19 @@ both_on Looped first script net_was net_is old new left status on ended = absurd
 bench_succeeds_by : (words : List (List ℕ)) (old new : Outside) (left : Option Live) (status : Status) → Ran words old new left status
     → BenchSucceeds words old new left status
 bench_succeeds_by words old new left status (refused refusal cause line net blank) value is on fine still =
-    inr (inr (wants_memory refusal old.sink new.sink status line still.sink (fine refusal cause)))
+    inr (wants_memory refusal old.sink new.sink status line still.sink (fine refusal cause))
 bench_succeeds_by words old new left status (ran job commands image accepted asked ended stays) value is on fine still =
-    bench_succeeds (first_chip job.options image) (of_script commands) old.sink new.sink left status
+    inl (bench_succeeds (first_chip job.options image) (of_script commands) old.sink new.sink left status
     (both_on job.way (first_chip job.options image) commands old.net new.net old.sink new.sink left status
-    (is_bench_job words value _ accepted.words_write is on) ended) (first_paced job.options image accepted.fair) still.below still.sink
+    (is_bench_job words value _ accepted.words_write is on) ended) (first_paced job.options image accepted.fair) still.below still.sink)
 bench_succeeds_by words old new left status (generated job image accepted files ended stays) value is on fine still =
-    number_succeeds job.way (first_chip job.options image) _ old.net new.net old.sink new.sink left status ended
-    (is_bench_job words value _ accepted.words_write is on) (first_paced job.options image accepted.fair) still.below still.sink
+    inl (number_succeeds job.way (first_chip job.options image) _ old.net new.net old.sink new.sink left status ended
+    (is_bench_job words value _ accepted.words_write is on) (first_paced job.options image accepted.fair) still.below still.sink)
 bench_succeeds_by words old new left status (probed job commands accepted asked ended blank) value is on fine still =
     absurd (is_bench_job words value _ accepted.words_write is on)
 bench_succeeds_by words old new left status (programmed job commands file accepted asked net ended) value is on fine still =
-    bench_succeeds (first_chip (halted job.options) []) (of_elf file commands) old.sink new.sink left status ended
-    (first_paced (halted job.options) [] accepted.fair) still.below still.sink
+    inl (bench_succeeds (first_chip (halted job.options) []) (of_elf file commands) old.sink new.sink left status ended
+    (first_paced (halted job.options) [] accepted.fair) still.below still.sink)
 bench_succeeds_by words old new left status (probe_programmed job commands file accepted asked ended blank) value is on fine still =
     absurd (is_bench_job words value _ accepted.words_write is on)
 bench_succeeds_by words old new left status (soft job commands image accepted asked net ended) value is on fine still =
@@ -95,9 +95,9 @@ over_net_by : (sequel : Sequel) (at : List ℕ) (net_was mid net_is : NetSeen) (
     → (Rises old.faults new.faults → ⊥) → GoesToEnd status
 over_net_by sequel at net_was mid net_is old behind new closed status connected quiet went told put =
     let there : (f : Far) × (mid.state.chip ≡ Some f) = told_there mid.state.chip quiet.tells in
-    status_by closed false behind new status refl
+    inl (status_by closed false behind new status refl
     (over_net sequel there.0 mid net_is old behind closed went there.1 (paced_far mid.state.chip there.0 there.1 connected.loaded quiet.fair) quiet
-    (not_sink closed false old behind new status went.session.sink_cause told put)) told
+    (not_sink closed false old behind new status went.session.sink_cause told put)) told)
 
 script_over_net : (at : List ℕ) (chain : Option Plan) (script : List Command) (net_was net_is : NetSeen) (old new : SinkSeen) (status : Status)
     → ProbeEnd at chain script net_was net_is old new status → IsAlone chain → (Rises net_was.faults net_is.faults → ⊥) → (Rises old.faults new.faults → ⊥)
@@ -105,7 +105,7 @@ script_over_net : (at : List ℕ) (chain : Option Plan) (script : List Command) 
 script_over_net at (Some plan) script net_was net_is old new status ended is_alone net put quiet = absurd is_alone
 script_over_net at None script net_was net_is old new status (alone some there same line) is_alone net put quiet = absurd (false≢true some)
 script_over_net at None script net_was net_is old new status (unopened fault failed line) is_alone net put quiet =
-    inr (inr (unopened_memory calls.Connect (Some at) fault net_was net_is old new status failed line net put))
+    inr (unopened_memory calls.Connect (Some at) fault net_was net_is old new status failed line net put)
 script_over_net at None script net_was net_is old new status (opened mid closed behind connected later went told) is_alone net put quiet =
     over_net_by (of_script script) at net_was mid net_is old behind new closed status connected (quiet mid connected) went told put
 
@@ -113,14 +113,14 @@ elf_over_net : (at file : List ℕ) (script : List Command) (net_was net_is : Ne
     → ProbeElfEnd at file script net_was net_is old new status → (Rises net_was.faults net_is.faults → ⊥) → (Rises old.faults new.faults → ⊥)
     → ((mid : NetSeen) → ConnectedAt at net_was mid → StaysQuiet mid net_is) → GoesToEnd status
 elf_over_net at file script net_was net_is old new status (elf_unopened fault failed line) net put quiet =
-    inr (inr (unopened_memory calls.Connect (Some at) fault net_was net_is old new status failed line net put))
+    inr (unopened_memory calls.Connect (Some at) fault net_was net_is old new status failed line net put)
 elf_over_net at file script net_was net_is old new status (elf_opened mid closed behind connected later went told) net put quiet =
     over_net_by (of_elf file script) at net_was mid net_is old behind new closed status connected (quiet mid connected) went told put
 
 net_succeeds_by : (words : List (List ℕ)) (old new : Outside) (left : Option Live) (status : Status) → Ran words old new left status
     → ProbeSucceeds words old new status
 net_succeeds_by words old new left status (refused refusal cause line net blank) value is on fine still put quiet =
-    inr (inr (wants_memory refusal old.sink new.sink status line put (fine refusal cause)))
+    inr (wants_memory refusal old.sink new.sink status line put (fine refusal cause))
 net_succeeds_by words old new left status (ran job commands image accepted asked ended stays) value is on fine still put quiet =
     absurd (is_probe_job words value _ accepted.words_write is on)
 net_succeeds_by words old new left status (generated job image accepted files ended stays) value is on fine still put quiet =

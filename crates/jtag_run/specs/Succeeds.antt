@@ -23,6 +23,7 @@ use Rattle.jtag_run.specs.declared.refusal.Refusal.{Refusal}
 use Rattle.jtag_run.specs.declared.refusal.Refusal.TheVariants as refusals
 use Rattle.jtag_run.specs.declared.status.Status.{Status}
 use Rattle.jtag_run.specs.declared.status.Status.TheVariants as status_as
+use Rattle.wire_session.specs.Seen.{SinkSeen}
 
 -- ---- what has to hold
 
@@ -52,9 +53,17 @@ ChipSucceeds words old new left status =
 
 -- ---- a session on the bench's own chip
 
--- it went to its script's end, with or without errors, or memory was wanting before
+-- it went to its script's end, with or without errors
+abbrev pub ReachesEnd : Status → Type 0
+ReachesEnd status = (status ≡ status_as.Clean) ⊎ (status ≡ status_as.WithErrors)
+
+-- of any chip that was as it was loaded, whose schedule is fair: where the sink counted no fault, and the chip has not met its limit of events
+abbrev pub WithSucceeds : Live → (old new : SinkSeen) → (left : Option Live) → Status → Type 0
+WithSucceeds first old new left status = IsFair first → (Rises old.faults new.faults → ⊥) → limit_met left ≡ false → ReachesEnd status
+
+-- or memory was wanting before
 abbrev pub GoesToEnd : Status → Type 0
-GoesToEnd status = (status ≡ status_as.Clean) ⊎ ((status ≡ status_as.WithErrors) ⊎ (status ≡ status_as.OutOfMemory))
+GoesToEnd status = ReachesEnd status ⊎ (status ≡ status_as.OutOfMemory)
 
 -- straight to the chip, or in a chain: no net is opened
 abbrev pub IsOnBench : Way → Type 0
