@@ -1,5 +1,5 @@
 -- A session over a net that tells its chip, whose run need not fail, goes along its plan to an end.
-use Rattle.std.proofs.Common.{◌≡◌, ◌∙◌, ◌≤◌, ◌<◌, ◌-◌, ◌^◌, ℕ, true, false, List, Option, Some, None, IfSome, refl, sym, ap, subst, inl, inr, option_map, arith}
+use Rattle.std.proofs.Common.{◌≡◌, ◌∙◌, ◌≤◌, ◌<◌, ◌-◌, ◌^◌, ℕ, true, List, Option, Some, IfSome, refl, sym, ap, subst, inl, inr, option_map, arith}
 use Rattle.std.proofs.lemmas.Bool.{false≢true}
 use Rattle.std.proofs.lemmas.Option.{none-some}
 use Rattle.abstract_debugger.specs.Plan.{Plan}
