@@ -48,7 +48,7 @@ told_bench None unread f is = absurd (none-some f is)
 told_bench (Some l) unread f is = (l, refl, ap chip_of (same_Some _ f is))
 
 -- the chip of the bench is that which the session left: the end of its stream changes nothing else
-pub left_chip : (bench : Option Live) (unread : List ℕ) (n : ℕ) (mid : WireSeen) (f : Far) (e closed : End) → mid.far ≡ Some f
+left_chip : (bench : Option Live) (unread : List ℕ) (n : ℕ) (mid : WireSeen) (f : Far) (e closed : End) → mid.far ≡ Some f
     → Closes mid (at_bench bench unread n) e closed → (l : Live) × (bench ≡ Some l) × (l.chip ≡ chip_of f)
 left_chip bench unread n mid f e closed is (behind_fault sends same kept) = told_bench bench unread f (ap (λ (w : WireSeen). w.far) kept ∙ is)
 left_chip bench unread n mid f e closed is (quitted sends same done) =

@@ -18,6 +18,7 @@ use Rattle.jtag_run.specs.Sessions.{IsBenchEnd, OnBench, OnBenchBy, at_bench}
 use Rattle.probe_session.specs.declared.ended.Ended.{Ended as End}
 use Rattle.probe_session.specs.declared.ended.Ended.TheVariants as ends
 use Rattle.probe_session.specs.Causes.{EndCaused}
+use Rattle.probe_session.specs.Never.{EndsInTime}
 use Rattle.probe_session.specs.Transcribed.{WrittenBy}
 use Rattle.wire_session.specs.Closing.{Closes, sends_quit, unclosed}
 use Rattle.wire_session.specs.Closing.Closes.{behind_fault, quitted, unquitted}
@@ -94,19 +95,20 @@ possible_end bench unread p was is first last mid e closed told cause w (unquitt
 
 pub on_bench_by : (old bench : Option Live) (unread : List ℕ) (sequel : Sequel) (was is : SinkSeen) (closed : End)
     → WireSessionBy (sequel_plan sequel) (at_bench old [] 0) (at_bench bench unread 0) was is closed
-    → UpTo sequel (at_bench old [] 0) (at_bench bench unread 0) was is closed
+    → UpTo sequel (at_bench old [] 0) (at_bench bench unread 0) was is closed → EndsInTime (far_of old []) closed
     → IfSome old (λ first. OnBenchBy first sequel was is bench (limit_met bench) closed)
-on_bench_by None bench unread sequel was is closed s u = tt
-on_bench_by (Some first) bench unread sequel was is closed s u = record {
+on_bench_by None bench unread sequel was is closed s u in_time = tt
+on_bench_by (Some first) bench unread sequel was is closed s u in_time = record {
   unread = unread;
   session = s;
   possible = possible_end bench unread (sequel_plan sequel) was.printed is.printed (read_out first) s.headline.far s.mid s.end closed s.headline.is s.cause
       s.headline.holds.written s.closes;
   up_to = u;
+  in_time = in_time;
 }
 
 pub on_bench : (old bench : Option Live) (unread : List ℕ) (script : List Command) (was is : SinkSeen) (closed : End)
     → WireSession script (at_bench old [] 0) (at_bench bench unread 0) was is closed
-    → WireUpTo script (at_bench old [] 0) (at_bench bench unread 0) was is closed
+    → WireUpTo script (at_bench old [] 0) (at_bench bench unread 0) was is closed → EndsInTime (far_of old []) closed
     → IfSome old (λ first. OnBench first script was is bench (limit_met bench) closed)
-on_bench old bench unread script was is closed s u = on_bench_by old bench unread (of_script script) was is closed s u
+on_bench old bench unread script was is closed s u in_time = on_bench_by old bench unread (of_script script) was is closed s u in_time

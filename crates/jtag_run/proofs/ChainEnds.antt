@@ -10,6 +10,7 @@ use Rattle.debug_model.specs.Loaded.{AsLoaded}
 use Rattle.debug_model.specs.Told.{IsAsLoaded, IsRead}
 use Rattle.jtag_run.specs.Sessions.{IsLoadedBench, OnBench, at_bench}
 use Rattle.jtag_run.proofs.BenchEnds.{on_bench}
+use Rattle.probe_session.specs.Never.{EndsInTime}
 use Rattle.probe_session.specs.declared.ended.Ended.{Ended as End}
 use Rattle.wire_session.specs.Seen.{SinkSeen, WireSeen}
 use Rattle.wire_session.specs.WireSession.{WireSession, WireUpTo}
@@ -70,8 +71,9 @@ chain_as_bench plan old bench told s unread script was is closed first went =
 pub on_chain : (plan : Plan) (old bench : Option Live) (told : Option ChainFar) (s : Beside) (unread : List ℕ) (script : List Command) (was is : SinkSeen)
     (closed : End) → told ≡ planned_far plan old
     → WireSession script (at_chain told 0) (at_chain (chain_far bench s unread) 0) was is closed
-    → WireUpTo script (at_chain told 0) (at_chain (chain_far bench s unread) 0) was is closed
+    → WireUpTo script (at_chain told 0) (at_chain (chain_far bench s unread) 0) was is closed → EndsInTime (chip_told told) closed
     → IfSome old (λ first. OnBench first script was is bench (limit_met bench) closed)
-on_chain plan old bench told s unread script was is closed first went up_to =
+on_chain plan old bench told s unread script was is closed first went up_to in_time =
     on_bench old bench unread script was is closed (chain_as_bench plan old bench told s unread script was is closed first went)
     (as_bench (λ before behind. WireUpTo script before behind was is closed) plan old bench told s unread first up_to)
+    (subst (λ far. EndsInTime far closed) (ap chip_told first ∙ chip_first plan old) in_time)

@@ -1,5 +1,5 @@
 -- A served chip whose run need not fail ends with its client.
-use Rattle.std.proofs.Common.{◌≡◌, ◌∙◌, ◌⊎◌, ◌≤◌, ◌<◌, ◌-◌, ◌^◌, ℕ, Bool, true, false, List, Option, Some, None, refl, sym, ap, subst, inl, inr, arith, if◌then◌else◌}
+use Rattle.std.proofs.Common.{◌≡◌, ◌∙◌, ◌⊎◌, ◌≤◌, ℕ, Bool, true, false, List, Option, Some, None, refl, sym, ap, subst, inl, inr, arith, if◌then◌else◌}
 use Rattle.std.proofs.lemmas.Bool.{false≢true}
 use Rattle.std.proofs.lemmas.Option.{same_Some}
 use Rattle.chain_bench.specs.ChainFed.{chip_in, planned_on}
@@ -21,14 +21,14 @@ use Rattle.jtag_run.specs.First.{first_chip}
 use Rattle.jtag_run.specs.Jobs.{Chip, said_chip}
 use Rattle.jtag_run.specs.LastLine.{Closed}
 use Rattle.jtag_run.specs.LastLine.Closed.{said, unsaid}
-use Rattle.jtag_run.specs.Opening.{AcceptedAt, OpenFailed, refusal_of}
+use Rattle.jtag_run.specs.Opening.{OpenFailed, refusal_of}
 use Rattle.jtag_run.specs.Outside.{NetSeen, Outside}
 use Rattle.jtag_run.specs.Ran.{Ran}
 use Rattle.jtag_run.specs.Ran.Ran.{refused, ran, generated, probed, programmed, probe_programmed, soft as soft_ran, probe_soft as probe_soft_ran, served, sniffed}
 use Rattle.jtag_run.specs.Refusal.{Refused, status_of}
 use Rattle.jtag_run.specs.ServedChip.{ServedAt, Told, WasServedAs}
 use Rattle.jtag_run.specs.ServedChip.ServedAt.{opened, unopened}
-use Rattle.jtag_run.specs.Succeeds.{ChipSucceeds, IsAcceptable, IsUndisturbed, TakesNoBadByte}
+use Rattle.jtag_run.specs.Succeeds.{ChipSucceeds, IsUndisturbed, TakesNoBadByte}
 use Rattle.jtag_run.specs.declared.refusal.Refusal.{Refusal}
 use Rattle.jtag_run.specs.declared.refusal.Refusal.TheVariants as refusals
 use Rattle.jtag_run.specs.declared.status.Status.{Status}

@@ -19,7 +19,9 @@ use Rattle.jtag_run.specs.Ending.{ClosedBy}
 use Rattle.jtag_run.specs.Sequel.Sequel.{of_elf}
 use Rattle.jtag_run.specs.Sessions.{IsLoadedBench, OnBenchBy}
 use Rattle.jtag_run.specs.declared.status.Status.{Status}
-use Rattle.command_line.specs.WrittenJob.{job_of}
+use Rattle.command_line.specs.WrittenJob.{OptionsInRange, job_of}
+use Rattle.jtag_run.proofs.ElfFiles.{halted_in_range}
+use Rattle.jtag_run.proofs.SeedBounds.{seed_fair}
 use Rattle.wire_session.specs.Seen.{SinkSeen}
 
 pub prepared_elf_fresh : (job : BothElf) (held : Option (List NamedFile)) (commands : List Command) (file : List ℕ) (bench : Option Live)
@@ -27,7 +29,8 @@ pub prepared_elf_fresh : (job : BothElf) (held : Option (List NamedFile)) (comma
 prepared_elf_fresh job held commands file bench p = record { first = first_chip (halted job.options) []; is = p.is; as_loaded = p.as_loaded }
 
 pub elf_ended : (old bench : Option Live) (file : List ℕ) (script : List Command) (was mid is : SinkSeen) (closed : End) (status : Status)
-    → was.faults ≤ mid.faults → IfSome old (λ first. OnBenchBy first (of_elf file script) was mid bench (limit_met bench) closed) → ClosedBy closed (limit_met bench) mid is status
+    → was.faults ≤ mid.faults → IfSome old (λ first. OnBenchBy first (of_elf file script) was mid bench (limit_met bench) closed)
+    → ClosedBy closed (limit_met bench) mid is status
     → IfSome old (λ first. ElfEnd first file script was is bench status)
 elf_ended None bench file script was mid is closed status later ran told = tt
 elf_ended (Some first) bench file script was mid is closed status later ran told =
@@ -42,12 +45,19 @@ elf_ran job files_was files_is old new bench mid left status commands file p ask
     (subst (λ m. IfSome m (λ first. ElfEnd first file commands old new left status)) p.is ended)
 
 pub run_programmed : (words : List (List ℕ)) (old new : Outside) (bench left : Option Live) (status : Status) (job : BothElf)
-    → job_of words ≡ Some (said_both_elf job) → bench ≡ None → new.net ≡ old.net
+    → job_of words ≡ Some (said_both_elf job) → OptionsInRange job.options → bench ≡ None → new.net ≡ old.net
     → RanElf job old.files new.files old.sink new.sink bench left status → Ran words old new left status
-run_programmed words old new bench left status job is blank net (elf_unready refusal cause was kept) =
+run_programmed words old new bench left status job is ranges blank net (elf_unready refusal cause was kept) =
     refused refusal (of_elf job is cause) was net (kept ∙ blank)
-run_programmed words old new bench left status job is blank net (elf_done commands file script holds loads asked ended) =
-    programmed job commands file (record { words_write = is; script_reads = script; file_is = holds; loads = loads }) asked net ended
+run_programmed words old new bench left status job is ranges blank net (elf_done commands file script holds loads asked ended) =
+    programmed job commands file
+    (record {
+      words_write = is;
+      script_reads = script;
+      file_is = holds;
+      loads = loads;
+      fair = seed_fair (halted job.options) [] (halted_in_range job.options ranges) loads;
+    }) asked net ended
 
 pub run_probe_programmed : (words : List (List ℕ)) (old new : Outside) (bench : Option Live) (status : Status) (job : ProbeElf)
     → job_of words ≡ Some (said_probe_elf job) → bench ≡ None → RanProbeElf job old new status → Ran words old new bench status

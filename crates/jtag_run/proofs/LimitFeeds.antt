@@ -4,14 +4,13 @@ use Rattle.debug_model.specs.declared.chip_end.ChipEnd.{ChipEnd}
 use Rattle.debug_model.specs.declared.chip_end.ChipEnd.TheVariants.{Quitted, BadByte, AtLimit}
 use Rattle.debug_model.specs.Chip.{Live, after, feed}
 use Rattle.chain_bench.proofs.AsChip.{ends_as_its_chip}
-use Rattle.chain_bench.specs.ChainFed.{chip_in, fed_in, planned_on}
+use Rattle.chain_bench.specs.ChainFed.{chip_in, fed_in}
 use Rattle.chain_bench.specs.Benched.{feed_in}
-use Rattle.chain_scan.specs.ChainPlan.{Plan}
 use Rattle.chain_scan.specs.ChipInChain.{seen_bytes}
 use Rattle.chain_scan.specs.Told.{ChainLive, chip_live, feed_chain}
 use Rattle.chip_core.specs.declared.fed.Fed.{Fed}
 use Rattle.chip_core.specs.declared.fed.Fed.TheVariants.{EventLimit}
-use Rattle.chip_core.specs.Fed.{fed, fed_from, placed}
+use Rattle.chip_core.specs.Fed.{fed_from, placed}
 use Rattle.chip_core.specs.Feeds.{fed_of, feed_of, is_limit, limit_met}
 use Rattle.chip_laws.proofs.StreamLemmas.{takes_nothing}
 

@@ -2,12 +2,14 @@
 use Rattle.std.proofs.Common.{◌≡◌, ◌∙◌, ℕ, Bool, true, List, [], Option, Some, None, IfSome, ap, subst}
 use Rattle.std.proofs.lemmas.Option.{same_Some}
 use Rattle.bench_links.specs.Looped.{IsBlamed, looped}
+use Rattle.chip_core.specs.Feeds.{far_of}
 use Rattle.debug_model.specs.declared.command.Command.{Command}
 use Rattle.debug_model.specs.Chip.{Live}
 use Rattle.debug_model.specs.Ties.{Began}
 use Rattle.jt_base.specs.Faults.{Rises}
 use Rattle.jtag_run.specs.Outside.{NetSeen}
 use Rattle.jtag_run.specs.Sessions.{OnLoop, at_bench}
+use Rattle.probe_session.specs.Never.{EndsInTime}
 use Rattle.probe_session.specs.declared.ended.Ended.{Ended as End}
 use Rattle.wire_session.specs.Seen.{SinkSeen}
 use Rattle.wire_session.specs.WireSession.{WireSession, WireUpTo}
@@ -33,9 +35,9 @@ pub on_loop : (old bench : Option Live) (unread : List ℕ) (differences : ℕ) 
     closed
     → WireUpTo script (at_bench old [] (looped 0 net_was.faults net_was.ends)) (at_bench bench unread (looped differences net_is.faults net_is.ends)) was is
     closed
-    → net_is.state.ties ≡ net_was.state.ties
+    → EndsInTime (far_of old []) closed → net_is.state.ties ≡ net_was.state.ties
     → (net_was.state.ties.tells_pipe ≡ true → (Rises net_was.faults net_is.faults → ⊥) → (Rises net_was.ends net_is.ends → ⊥) → differences ≡ 0)
     → IfSome old (λ first. OnLoop first script net_was net_is was is bench closed)
-on_loop None bench unread differences script net_was net_is was is closed session up_to ties alike = tt
-on_loop (Some first) bench unread differences script net_was net_is was is closed session up_to ties alike =
-    record { unread = unread; differences = differences; session = session; up_to = up_to; ties = ties; alike = alike }
+on_loop None bench unread differences script net_was net_is was is closed session up_to in_time ties alike = tt
+on_loop (Some first) bench unread differences script net_was net_is was is closed session up_to in_time ties alike =
+    record { unread = unread; differences = differences; session = session; up_to = up_to; in_time = in_time; ties = ties; alike = alike }

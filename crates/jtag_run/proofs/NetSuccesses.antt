@@ -1,8 +1,9 @@
--- A session over a net that tells its chip, whose run need not fail, goes along its plan to an end, or is lost for a cause that its record names.
-use Rattle.std.proofs.Common.{◌≡◌, ◌∙◌, ◌≤◌, ◌<◌, ◌-◌, ◌^◌, ℕ, true, false, List, Option, Some, None, IfSome, refl, sym, ap, subst, inl, inr, option_map, arith}
+-- A session over a net that tells its chip, whose run need not fail, goes along its plan to an end.
+use Rattle.std.proofs.Common.{◌≡◌, ◌∙◌, ◌≤◌, ◌<◌, ◌-◌, ◌^◌, ℕ, true, List, Option, Some, IfSome, refl, sym, ap, subst, inl, inr, option_map, arith}
 use Rattle.std.proofs.lemmas.Bool.{false≢true}
 use Rattle.std.proofs.lemmas.Option.{none-some}
 use Rattle.abstract_debugger.specs.Plan.{Plan}
+use Rattle.debug_model.specs.Pacing.{Paced}
 use Rattle.debug_model.specs.Scan.{Coming, ScanCause}
 use Rattle.debug_model.specs.Told.{Far, MetLimit, chip_of}
 use Rattle.debug_model.specs.Wire.{EndCause, SendCause, SentFront, sent}
@@ -10,32 +11,30 @@ use Rattle.debug_model.specs.declared.wire.WireFault.{WireFault}
 use Rattle.debug_model.specs.declared.wire.WireFault.TheVariants.{SendFailed, RecvFailed, Ended, BadAnswer}
 use Rattle.jt_base.specs.Faults.{Rises}
 use Rattle.jtag_net.specs.Wired.{summed}
-use Rattle.jtag_run.proofs.BenchSuccesses.{lost_before, may_lose}
+use Rattle.jtag_run.proofs.BenchSuccesses.{IsWhole, lost_before, never_loses}
 use Rattle.jtag_run.specs.Outside.{NetSeen}
 use Rattle.jtag_run.specs.Sequel.{Sequel, sequel_plan}
 use Rattle.jtag_run.specs.Sessions.{OnNetBy, wired}
-use Rattle.jtag_run.specs.Succeeds.{EndsOver, MayEnd, StaysQuiet, status_at}
-use Rattle.jtag_run.specs.declared.status.Status.{Status}
+use Rattle.jtag_run.specs.Succeeds.{StaysQuiet}
 use Rattle.probe_run.specs.declared.fault.ConnectFault.{ConnectFault}
 use Rattle.probe_session.specs.Causes.{EndCaused}
+use Rattle.probe_session.specs.Never.{EndsInTime}
 use Rattle.probe_session.specs.Transcribed.{Still, WrittenBy}
 use Rattle.probe_session.specs.declared.ended.Ended.{Ended as End}
 use Rattle.probe_session.specs.declared.ended.Ended.TheVariants as ends
-use Rattle.wire_session.proofs.StreamEnds.{front_chip, sent_chip}
 use Rattle.wire_session.specs.Closing.{Closes, quit, sends_quit, unclosed}
 use Rattle.wire_session.specs.Closing.Closes.{behind_fault, quitted, unquitted}
 use Rattle.wire_session.specs.Headline.{HeadlineBy}
 use Rattle.wire_session.specs.Seen.{SinkSeen, WireSeen}
 
--- ---- the end of the stream changes nothing of the chip
+-- ---- a wire that tells its chip tells it behind the end of the stream
 
-left_told : (mid new : WireSeen) (f : Far) (e closed : End) → mid.far ≡ Some f → Closes mid new e closed
-    → (g : Far) × (new.far ≡ Some g) × (chip_of g ≡ chip_of f)
-left_told mid new f e closed is (behind_fault sends same kept) = (f, ap (λ (w : WireSeen). w.far) kept ∙ is, refl)
-left_told mid new f e closed is (quitted sends same done) = (sent quit f, done.far ∙ ap (option_map (sent quit)) is, sent_chip f)
+left_told : (mid new : WireSeen) (f : Far) (e closed : End) → mid.far ≡ Some f → Closes mid new e closed → (g : Far) × (new.far ≡ Some g)
+left_told mid new f e closed is (behind_fault sends same kept) = (f, ap (λ (w : WireSeen). w.far) kept ∙ is)
+left_told mid new f e closed is (quitted sends same done) = (sent quit f, done.far ∙ ap (option_map (sent quit)) is)
 left_told mid new f e closed is (unquitted why sends same done) =
     let front = subst (λ m. SentFront quit m new.far) is done.far in
-    (sent front.0 f, front.3, front_chip f front.0 front.1 front.2)
+    (sent front.0 f, front.3)
 
 -- ---- a wire that counted nothing more has not failed
 
@@ -89,35 +88,30 @@ no_target p was is first last mid new e fault w (unquitted wire sends closed don
 
 -- ---- by the end
 
-may_end : (p : Plan) (was is : Option (List ℕ)) (old : ℕ) (first last : Far) (mid new : WireSeen) (e closed : End) → mid.far ≡ Some last
+is_whole : (p : Plan) (was is : Option (List ℕ)) (old : ℕ) (first last : Far) (mid new : WireSeen) (e closed : End) → mid.far ≡ Some last
     → EndCaused old mid.faults mid.far e → WrittenBy p was is first last e → Closes mid new e closed → old ≤ mid.faults → new.faults ≤ old
-    → old < 2 ^ 64 - 1 → (MetLimit new.far → ⊥) → (closed ≡ ends.Sink → ⊥) → MayEnd (Some last) closed
-may_end p was is old first last mid new e ends.Clean told caused w c later same room below put = tt
-may_end p was is old first last mid new e ends.WithErrors told caused w c later same room below put = tt
-may_end p was is old first last mid new e (ends.Target fault) told caused w c later same room below put =
+    → old < 2 ^ 64 - 1 → (MetLimit new.far → ⊥) → Paced (chip_of first).inside → EndsInTime (Some first) closed → (closed ≡ ends.Sink → ⊥) → IsWhole closed
+is_whole p was is old first last mid new e ends.Clean told caused w c later same room below paced in_time put = tt
+is_whole p was is old first last mid new e ends.WithErrors told caused w c later same room below paced in_time put = tt
+is_whole p was is old first last mid new e (ends.Target fault) told caused w c later same room below paced in_time put =
     absurd (no_target p was is first last mid new e fault w c)
-may_end p was is old first last mid new e (ends.Wire why) told caused w c later same room below put =
+is_whole p was is old first last mid new e (ends.Wire why) told caused w c later same room below paced in_time put =
     absurd (no_wire old mid new last e why told caused later same room below c)
-may_end p was is old first last mid new e (ends.Lost why) told caused w c later same room below put =
-    let before : e ≡ ends.Lost why = lost_before mid new e why c in
-    may_lose p was is first last why
-    (subst (λ x. EndCaused old mid.faults (Some last) x) before (subst (λ far. EndCaused old mid.faults far e) told caused))
-    (subst (λ x. WrittenBy p was is first last x) before w)
-may_end p was is old first last mid new e ends.Sink told caused w c later same room below put = absurd (put refl)
+is_whole p was is old first last mid new e (ends.Lost why) told caused w c later same room below paced in_time put =
+    absurd (never_loses p was is first last why paced in_time (subst (λ x. WrittenBy p was is first last x) (lost_before mid new e why c) w))
+is_whole p was is old first last mid new e ends.Sink told caused w c later same room below paced in_time put = absurd (put refl)
 
-pub over_net : (sequel : Sequel) (first : Far) (net_was net_is : NetSeen) (was is : SinkSeen) (closed : End) (status : Status)
-    → OnNetBy sequel net_was net_is was is closed → net_was.state.chip ≡ Some first → StaysQuiet net_was net_is → (closed ≡ ends.Sink → ⊥)
-    → ((told : Far) → MayEnd (Some told) closed → status ≡ status_at closed) → EndsOver net_is status
-over_net sequel first net_was net_is was is closed status s told q put tells =
+pub over_net : (sequel : Sequel) (first : Far) (net_was net_is : NetSeen) (was is : SinkSeen) (closed : End) → OnNetBy sequel net_was net_is was is closed
+    → net_was.state.chip ≡ Some first → Paced (chip_of first).inside → StaysQuiet net_was net_is → (closed ≡ ends.Sink → ⊥) → IsWhole closed
+over_net sequel first net_was net_is was is closed s told paced q put =
     let h : Still (λ last. HeadlineBy (sequel_plan sequel) was.printed is.printed first last s.session.end) s.session.mid.far =
     subst (λ t. IfSome t (λ f. Still (λ last. HeadlineBy (sequel_plan sequel) was.printed is.printed f last s.session.end) s.session.mid.far)) told
     s.session.headline in
-    let there : (g : Far) × (net_is.state.chip ≡ Some g) × (chip_of g ≡ chip_of h.far) =
+    let there : (g : Far) × (net_is.state.chip ≡ Some g) =
     left_told s.session.mid (wired s.bad_answers net_is) h.far s.session.end closed h.is s.session.closes in
     let none : s.bad_answers ≡ 0 = subst (λ t. IfSome t (λ _. s.bad_answers ≡ 0)) there.1 s.judged in
     let same : summed s.bad_answers net_is.faults net_is.ends ≤ summed 0 net_was.faults net_was.ends =
     subst (λ n. summed n net_is.faults net_is.ends ≤ summed 0 net_was.faults net_was.ends) (sym none) q.counts in
-    let may : MayEnd (Some h.far) closed =
-    may_end (sequel_plan sequel) was.printed is.printed (summed 0 net_was.faults net_was.ends) first h.far s.session.mid (wired s.bad_answers net_is)
-    s.session.end closed h.is s.session.cause h.holds.written s.session.closes s.session.later same q.room q.below put in
-    record { end = closed; told = h.far; far = there.0; on_net = there.1; chip = there.2; may = may; is = tells h.far may }
+    is_whole (sequel_plan sequel) was.printed is.printed (summed 0 net_was.faults net_was.ends) first h.far s.session.mid (wired s.bad_answers net_is)
+    s.session.end closed h.is s.session.cause h.holds.written s.session.closes s.session.later same q.room q.below paced
+    (subst (λ t. EndsInTime t closed) told s.in_time) put

@@ -28,7 +28,7 @@ use Rattle.jtag_run.specs.Causes.RefusalCause.{of_both, of_chip, of_gen, of_prob
 use Rattle.jtag_run.specs.ServedChip.{RanChip, PreparedChip, ServedAt}
 use Rattle.jtag_run.specs.ServedChip.RanChip.{refused as refused_chip, served as served_chip}
 use Rattle.jtag_run.specs.Sessions.{IsLoadedBench, OnLoop}
-use Rattle.jtag_run.proofs.SeedBounds.{seed_stays}
+use Rattle.jtag_run.proofs.SeedBounds.{seed_fair, seed_stays}
 use Rattle.jtag_run.specs.Jobs.{Both, Chip, Gen, Probe, said_both, said_chip, said_gen, said_probe}
 use Rattle.jtag_run.specs.declared.refusal.Refusal.{Refusal}
 use Rattle.jtag_run.specs.declared.status.Status.{Status}
@@ -162,18 +162,20 @@ pub refused_words : (words : List (List ℕ)) (old new : Outside) (bench : Optio
 refused_words words old new bench status refusal cause was files net blank = refused refusal (of_words cause files) was net blank
 
 pub run_both : (words : List (List ℕ)) (old new : Outside) (bench left : Option Live) (status : Status) (job : Both) → job_of words ≡ Some (said_both job)
-    → bench ≡ None → RanBoth job old new bench left status → Ran words old new left status
-run_both words old new bench left status job is blank (both_unready refusal cause was net kept) = refused refusal (of_both job is cause) was net (kept ∙ blank)
-run_both words old new bench left status job is blank (both_done commands image script holds loads asked ended stays) =
-    ran job commands image (record { words_write = is; script_reads = script; image_is = holds; loads = loads }) asked ended stays
+    → OptionsInRange job.options → bench ≡ None → RanBoth job old new bench left status → Ran words old new left status
+run_both words old new bench left status job is ranges blank (both_unready refusal cause was net kept) =
+    refused refusal (of_both job is cause) was net (kept ∙ blank)
+run_both words old new bench left status job is ranges blank (both_done commands image script holds loads asked ended stays) =
+    ran job commands image
+    (record { words_write = is; script_reads = script; image_is = holds; loads = loads; fair = seed_fair job.options image ranges loads }) asked ended stays
 
 pub run_gen : (words : List (List ℕ)) (old new : Outside) (bench left : Option Live) (status : Status) (job : Gen) → job_of words ≡ Some (said_gen job)
-    → bench ≡ None → new.files ≡ old.files
+    → OptionsInRange job.options → bench ≡ None → new.files ≡ old.files
     → RanGen job old.net new.net old.sink new.sink bench left status → Ran words old new left status
-run_gen words old new bench left status job is blank files (gen_unready refusal cause was net kept) =
+run_gen words old new bench left status job is ranges blank files (gen_unready refusal cause was net kept) =
     refused refusal (of_gen job is cause files) was net (kept ∙ blank)
-run_gen words old new bench left status job is blank files (gen_done image made loads ended stays) =
-    generated job image (record { words_write = is; made = made; loads = loads }) files ended stays
+run_gen words old new bench left status job is ranges blank files (gen_done image made loads ended stays) =
+    generated job image (record { words_write = is; made = made; loads = loads; fair = seed_fair job.options image ranges loads }) files ended stays
 
 pub run_probe : (words : List (List ℕ)) (old new : Outside) (bench : Option Live) (status : Status) (job : Probe) → job_of words ≡ Some (said_probe job)
     → bench ≡ None → RanProbe job old new status → Ran words old new bench status

@@ -3,7 +3,7 @@ use Rattle.std.proofs.Common.{◌≡◌, ◌∙◌, ◌≤◌, ℕ, Bool, true, 
 use Rattle.std.proofs.lemmas.Bool.{false≢true}
 use Rattle.chip_core.specs.Feeds.{far_of, limit_met}
 use Rattle.debug_model.specs.Chip.{Live}
-use Rattle.debug_model.specs.Told.{Far, MetLimit, read_out}
+use Rattle.debug_model.specs.Told.{Far, MetLimit}
 use Rattle.debug_model.specs.declared.soft_command.SoftCommand.{SoftCommand}
 use Rattle.debug_model.specs.declared.wire.WireFault.{WireFault}
 use Rattle.jtag_run.proofs.BenchEnds.{limit_failed, limit_unsent, met_at}

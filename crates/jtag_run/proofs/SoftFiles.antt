@@ -1,5 +1,5 @@
 -- What is read and loaded before a session with software breakpoints, over plain variables.
-use Rattle.std.proofs.Common.{◌≡◌, ◌⊎◌, ◌≤◌, ◌∙◌, ℕ, List, Option, Some, IfSome, ap, subst, inl, inr}
+use Rattle.std.proofs.Common.{◌≡◌, ◌⊎◌, ◌≤◌, ◌∙◌, ℕ, List, Option, Some, IfSome, ap, inl, inr}
 use Rattle.debug_model.specs.Chip.{Live}
 use Rattle.debug_model.specs.Loaded.{AsLoaded}
 use Rattle.debug_model.specs.declared.soft_command.SoftCommand.{SoftCommand}
@@ -13,7 +13,7 @@ use Rattle.jtag_run.specs.Jobs.{BothSoft}
 use Rattle.jtag_run.specs.Outside.{FilesSeen}
 use Rattle.jtag_run.specs.Refusal.{ImageFileCause, LoadCause}
 use Rattle.jtag_run.specs.SoftRan.{PreparedSoft}
-use Rattle.jtag_run.specs.SoftRefusal.{AskedSoftFront, HoldsSoftScript, SoftCause, SoftScriptFileCause, asked_soft}
+use Rattle.jtag_run.specs.SoftRefusal.{AskedSoftFront, HoldsSoftScript, SoftCause, SoftScriptFileCause}
 use Rattle.jtag_run.specs.SoftRefusal.FailedSoftFile.{of_image, of_script}
 use Rattle.jtag_run.specs.declared.refusal.Refusal.{Refusal}
 use Rattle.jtag_run.specs.declared.refusal.Refusal.TheVariants.{Words, File, Script, Image, Elf, Open, OutOfMemory}

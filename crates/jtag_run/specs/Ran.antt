@@ -7,7 +7,7 @@ use Rattle.debug_model.specs.Loaded.{AsLoaded}
 use Rattle.generator.specs.Commands.{commands}
 use Rattle.generator.specs.Image.{IsImageOf, program}
 use Rattle.jt_base.specs.Files.{Holds, NamedFile, asked_more}
-use Rattle.jtag_run.specs.Bounds.{StaysWithin, slack_of}
+use Rattle.jtag_run.specs.Bounds.{IsFair, StaysWithin, slack_of}
 use Rattle.jtag_run.specs.Causes.{RefusalCause}
 use Rattle.jtag_run.specs.First.{CanLoad, first_chip}
 use Rattle.jtag_run.specs.Outside.{FilesSeen, NetSeen, Outside}
@@ -31,30 +31,34 @@ use Rattle.wire_session.specs.Seen.{SinkSeen}
 
 -- ---- what was accepted
 
--- the words write this job, its script is read as these commands, and its image can be loaded
+-- the words write this job, its script is read as these commands, and its image can be loaded, into a chip whose schedule is fair
 pub record IsAccepted (words : List (List ℕ)) (held : Option (List NamedFile)) (job : Both) (commands : List Command) (image : List ℕ) : Type 0 where
   pub words_write : job_of words ≡ Some (said_both job)
   pub script_reads : HoldsScript held job.script commands
   pub image_is : Holds held job.image image
   pub loads : CanLoad job.options image
+  pub fair : IsFair (first_chip job.options image)
 
--- the words write this job, and the image of its number can be loaded
+-- the words write this job, and the image of its number can be loaded, into a chip whose schedule is fair
 pub record IsAcceptedGen (words : List (List ℕ)) (job : Gen) (image : List ℕ) : Type 0 where
   pub words_write : job_of words ≡ Some (said_gen job)
   pub made : IsImageOf (program job.number) image
   pub loads : CanLoad job.options image
+  pub fair : IsFair (first_chip job.options image)
 
 -- the words write this job, and its script is read as these commands
 pub record IsAcceptedProbe (words : List (List ℕ)) (held : Option (List NamedFile)) (job : Probe) (commands : List Command) : Type 0 where
   pub words_write : job_of words ≡ Some (said_probe job)
   pub script_reads : HoldsScript held job.script commands
 
--- the words write this job, its script is read as these commands, its file is an ELF file that can be loaded, and a chip of its options can be made
+-- the words write this job, its script is read as these commands, its file is an ELF file that can be loaded, and a chip of its options can be made,
+-- whose schedule is fair
 pub record IsAcceptedElf (words : List (List ℕ)) (held : Option (List NamedFile)) (job : BothElf) (commands : List Command) (file : List ℕ) : Type 0 where
   pub words_write : job_of words ≡ Some (said_both_elf job)
   pub script_reads : HoldsScript held job.script commands
   pub file_is : HoldsElf held job.file file
   pub loads : CanLoad (halted job.options) []
+  pub fair : IsFair (first_chip (halted job.options) [])
 
 -- the words write this job, its script is read as these commands, and its file is an ELF file that can be loaded
 pub record IsAcceptedProbeElf (words : List (List ℕ)) (held : Option (List NamedFile)) (job : ProbeElf) (commands : List Command) (file : List ℕ) : Type 0 where

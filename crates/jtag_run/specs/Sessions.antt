@@ -16,6 +16,7 @@ use Rattle.jtag_run.specs.Opening.{Joined}
 use Rattle.jtag_run.specs.Outside.{NetSeen}
 use Rattle.jtag_run.specs.Sequel.{Sequel, UpTo, sequel_plan}
 use Rattle.jtag_run.specs.Sequel.Sequel.{of_script}
+use Rattle.probe_session.specs.Never.{EndsInTime}
 use Rattle.probe_session.specs.declared.ended.Ended.{Ended as End}
 use Rattle.probe_session.specs.declared.ended.Ended.TheVariants as ends
 use Rattle.wire_session.specs.Seen.{SinkSeen, WireSeen}
@@ -49,6 +50,8 @@ pub record OnBenchBy (first : Live) (sequel : Sequel) (was is : SinkSeen) (bench
   pub possible : IsBenchEnd closed limit
   -- the command that was under way where it broke off
   pub up_to : UpTo sequel (at_bench (Some first) [] 0) (at_bench bench unread 0) was is closed
+  -- where the chip's schedule is fair, nothing was lost
+  pub in_time : EndsInTime (far_of (Some first) []) closed
 
 -- of a session that runs a script
 abbrev pub OnBench : Live → List Command → (was is : SinkSeen) → Option Live → (limit : Bool) → End → Type 0
@@ -64,6 +67,7 @@ pub record OnLoop (first : Live) (script : List Command) (net_was net_is : NetSe
   pub ties : net_is.state.ties ≡ net_was.state.ties
   pub up_to : WireUpTo script (at_bench (Some first) [] (looped 0 net_was.faults net_was.ends))
       (at_bench bench unread (looped differences net_is.faults net_is.ends)) was is closed
+  pub in_time : EndsInTime (far_of (Some first) []) closed
   pub alike : net_was.state.ties.tells_pipe ≡ true → (Rises net_was.faults net_is.faults → ⊥) → (Rises net_was.ends net_is.ends → ⊥) → differences ≡ 0
 
 -- straight to the chip, or to a chain that it is in, and the net stays as it is; or over the net, which was joined for it.
@@ -88,6 +92,7 @@ pub record OnNetBy (sequel : Sequel) (net_was net_is : NetSeen) (was is : SinkSe
   pub bad_answers : ℕ
   pub session : WireSessionBy (sequel_plan sequel) (wired 0 net_was) (wired bad_answers net_is) was is closed
   pub up_to : UpTo sequel (wired 0 net_was) (wired bad_answers net_is) was is closed
+  pub in_time : EndsInTime net_was.state.chip closed
   pub ties : net_is.state.ties ≡ net_was.state.ties
   pub judged : IfSome net_is.state.chip (λ _. bad_answers ≡ 0)
 

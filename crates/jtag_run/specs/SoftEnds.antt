@@ -1,6 +1,6 @@
 -- A session whose script may set software breakpoints, over the chip on a bench and over a net, and what the program says of its end.
 -- The program is this project's own (docs/FORMATS.md, "Statuses").
-use Rattle.std.specs.Prelude.{◌≡◌, ℕ, List, [], Bool, false, true, Option, None, Some, IfSome}
+use Rattle.std.specs.Prelude.{◌≡◌, ℕ, List, [], Bool, false, true, Option, Some, IfSome}
 use Rattle.chip_core.specs.Feeds.{limit_met}
 use Rattle.debug_model.specs.Chip.{Live}
 use Rattle.debug_model.specs.declared.net.Call.TheVariants as calls

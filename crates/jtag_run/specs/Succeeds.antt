@@ -1,7 +1,6 @@
 -- Which runs need not fail, and how they end: what has to hold of the words, of what lies outside and of the chip, and which statuses are left then.
 -- The program is this project's own (docs/FORMATS.md, "Statuses").
-use Rattle.std.specs.Prelude.{◌≡◌, ◌⊎◌, ◌≤◌, ◌<◌, ◌-◌, ◌^◌, ℕ, List, [], Option, None, Some, IsSome, false}
-use Rattle.abstract_debugger.specs.Debugger.{most_looks}
+use Rattle.std.specs.Prelude.{◌≡◌, ◌⊎◌, ◌≤◌, ◌<◌, ◌-◌, ◌^◌, ℕ, List, [], Option, None, Some, IfSome, IsSome, false}
 use Rattle.chain_scan.specs.ChainPlan.{Plan}
 use Rattle.chip_core.specs.Feeds.{limit_met}
 use Rattle.chip_server.specs.declared.served.Served.TheVariants.{Bad}
@@ -10,9 +9,10 @@ use Rattle.command_line.specs.WrittenJob.{job_of}
 use Rattle.command_line.specs.declared.job.Way.{Way}
 use Rattle.command_line.specs.declared.job.Way.TheVariants.{Straight, Looped, Chained}
 use Rattle.debug_model.specs.Chip.{Live}
-use Rattle.debug_model.specs.Told.{Far, MetLimit, chip_of}
+use Rattle.debug_model.specs.Told.{MetLimit}
 use Rattle.jt_base.specs.Faults.{Rises}
 use Rattle.jtag_net.specs.Wired.{summed}
+use Rattle.jtag_run.specs.Bounds.{IsFair}
 use Rattle.jtag_run.specs.Causes.{RefusalCause}
 use Rattle.jtag_run.specs.First.{first_chip}
 use Rattle.jtag_run.specs.Jobs.{Chip, said_chip}
@@ -23,11 +23,7 @@ use Rattle.jtag_run.specs.declared.refusal.Refusal.{Refusal}
 use Rattle.jtag_run.specs.declared.refusal.Refusal.TheVariants as refusals
 use Rattle.jtag_run.specs.declared.status.Status.{Status}
 use Rattle.jtag_run.specs.declared.status.Status.TheVariants as status_as
-use Rattle.probe_session.specs.Causes.{DroppedOne, LastedBusy}
-use Rattle.probe_session.specs.declared.ended.Ended.{Ended as End}
-use Rattle.probe_session.specs.declared.ended.Ended.TheVariants as ends
-use Rattle.probe_session.specs.declared.fault.LostCause.{LostCause}
-use Rattle.probe_session.specs.declared.fault.LostCause.TheVariants as lost
+use Rattle.wire_session.specs.Seen.{SinkSeen}
 
 -- ---- what has to hold
 
@@ -57,41 +53,17 @@ ChipSucceeds words old new left status =
 
 -- ---- a session on the bench's own chip
 
--- why it may be lost all the same: the chip has dropped an operation; or was found busy 64 times, by its transport or by as many polls; or 64 Looks were in vain.
--- That a fair schedule excludes each of these is not said here
-abbrev pub MayLose : Option Far → LostCause → Type 0
-MayLose told lost.DmiFailed = DroppedOne told
-MayLose told lost.StillBusy = LastedBusy told
-MayLose told (lost.NoHalt looks) = looks ≡ most_looks
-MayLose told (lost.NoAck looks) = looks ≡ most_looks
-MayLose told (lost.Odd odd) = ⊥
+-- it went to its script's end, with or without errors
+abbrev pub ReachesEnd : Status → Type 0
+ReachesEnd status = (status ≡ status_as.Clean) ⊎ (status ≡ status_as.WithErrors)
 
--- the ends that are left
-abbrev pub MayEnd : Option Far → End → Type 0
-MayEnd told ends.Clean = Unit {0}
-MayEnd told ends.WithErrors = Unit {0}
-MayEnd told (ends.Target fault) = ⊥
-MayEnd told (ends.Wire why) = ⊥
-MayEnd told (ends.Lost why) = MayLose told why
-MayEnd told ends.Sink = ⊥
+-- of any chip that was as it was loaded, whose schedule is fair: where the sink counted no fault, and the chip has not met its limit of events
+abbrev pub WithSucceeds : Live → (old new : SinkSeen) → (left : Option Live) → Status → Type 0
+WithSucceeds first old new left status = IsFair first → (Rises old.faults new.faults → ⊥) → limit_met left ≡ false → ReachesEnd status
 
-abbrev pub status_at : End → Status
-status_at ends.Clean = status_as.Clean
-status_at ends.WithErrors = status_as.WithErrors
-status_at (ends.Target fault) = status_as.Target
-status_at (ends.Wire why) = status_as.Wire
-status_at (ends.Lost why) = status_as.Lost
-status_at ends.Sink = status_as.Sink
-
--- so it ended, on the chip that is on the bench
-pub record EndsBy (left : Option Live) (status : Status) : Type 0 where
-  pub end : End
-  pub told : Far
-  pub live : Live
-  pub on_bench : left ≡ Some live
-  pub chip : live.chip ≡ chip_of told
-  pub may : MayEnd (Some told) end
-  pub is : status ≡ status_at end
+-- or memory was wanting before
+abbrev pub GoesToEnd : Status → Type 0
+GoesToEnd status = ReachesEnd status ⊎ (status ≡ status_as.OutOfMemory)
 
 -- straight to the chip, or in a chain: no net is opened
 abbrev pub IsOnBench : Way → Type 0
@@ -110,30 +82,21 @@ IsBenchJob (probe_soft at script) = ⊥
 IsBenchJob (chip at image options chain) = ⊥
 IsBenchJob (sniff stream answers waves) = ⊥
 
--- it goes to its plan's end, or is lost as above, or memory was wanting before
+-- its schedule is a seed's, which is fair: so nothing is lost
 abbrev pub BenchSucceeds : List (List ℕ) → (old new : Outside) → (left : Option Live) → Status → Type 0
 BenchSucceeds words old new left status =
-    (value : JobValue) → job_of words ≡ Some value → IsBenchJob value → IsAcceptable words old new → IsUndisturbed old new left
-    → (status ≡ status_as.OutOfMemory) ⊎ EndsBy left status
+    (value : JobValue) → job_of words ≡ Some value → IsBenchJob value → IsAcceptable words old new → IsUndisturbed old new left → GoesToEnd status
 
 -- ---- a session over a net that tells its chip
 
--- from the connection on, the wire over the net counted nothing more, and the chip has not met its limit of events
+-- the net told its chip when it was connected, whose schedule was fair; from then on the wire over the net counted nothing more, and the chip has not met its
+-- limit of events
 pub record StaysQuiet (was is : NetSeen) : Type 0 where
   pub tells : IsSome was.state.chip
+  pub fair : IfSome was.state.chip (λ f. IsFair f.live)
   pub room : summed 0 was.faults was.ends < 2 ^ 64 - 1
   pub counts : summed 0 is.faults is.ends ≤ summed 0 was.faults was.ends
   pub below : MetLimit is.state.chip → ⊥
-
--- so it ended, on the chip at the far side of this net
-pub record EndsOver (net : NetSeen) (status : Status) : Type 0 where
-  pub end : End
-  pub told : Far
-  pub far : Far
-  pub on_net : net.state.chip ≡ Some far
-  pub chip : chip_of far ≡ chip_of told
-  pub may : MayEnd (Some told) end
-  pub is : status ≡ status_at end
 
 abbrev pub IsAlone : Option Plan → Type 0
 IsAlone None = Unit {0}
@@ -165,11 +128,11 @@ address_of (sniff stream answers waves) = []
 abbrev pub StaysQuietFrom : Outside → Outside → JobValue → Type 0
 StaysQuietFrom old new value = (mid : NetSeen) → ConnectedAt (address_of value) old.net mid → StaysQuiet mid new.net
 
--- it goes to its plan's end, or is lost as above, or memory was wanting before
+-- so it goes to its script's end
 abbrev pub ProbeSucceeds : List (List ℕ) → (old new : Outside) → Status → Type 0
 ProbeSucceeds words old new status =
     (value : JobValue) → job_of words ≡ Some value → IsProbeJob value → IsAcceptable words old new → (Rises old.net.faults new.net.faults → ⊥)
-    → (Rises old.sink.faults new.sink.faults → ⊥) → StaysQuietFrom old new value → (status ≡ status_as.OutOfMemory) ⊎ EndsOver new.net status
+    → (Rises old.sink.faults new.sink.faults → ⊥) → StaysQuietFrom old new value → GoesToEnd status
 
 -- ---- all of them
 

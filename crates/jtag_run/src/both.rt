@@ -8,6 +8,7 @@ ghost use Rattle.jtag_run.specs.Bounds.{StaysWhereFair};
 ghost use Rattle.jtag_run.specs.Ran.{RanBoth};
 ghost use Rattle.jtag_run.specs.Ends.{BenchEnd, LoopEnd};
 ghost use Rattle.jtag_run.specs.Sessions.{IsLoadedBench};
+ghost use Rattle.jtag_run.specs.Succeeds.{WithSucceeds};
 ghost use Rattle.jtag_run.specs.Jobs.{both_value};
 ghost use Rattle.command_line.specs.WrittenJob.{InRange, OptionsInRange, least_piece};
 
@@ -40,6 +41,10 @@ pub fn both_with<Q: Schedule, K: Sink>(
         (record { printed = K.contents out.new; faults = K.fault_count out.new })
         bench.new result) }
     ensures within { IfSome bench.old (λ first. StaysWhereFair 0 script.now first bench.new) }
+    ensures succeeds { IfSome bench.old (λ first. WithSucceeds first
+        (record { printed = K.contents out.old; faults = K.fault_count out.old })
+        (record { printed = K.contents out.new; faults = K.fault_count out.new })
+        bench.new result) }
 {
     let ended = run_on_bench(script, bench, piece, out);
     tell(out, ended, bench.at_limit())

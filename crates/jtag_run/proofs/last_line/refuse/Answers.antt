@@ -5,4 +5,6 @@ pub returns-in-Ok : goal.returns-in-Ok
 returns-in-Ok g c = record { refused = closed_said _ _ _ _ _ c.status.ensures c.in-Ok.ensures.put }
 
 pub returns-in-Err-Failed : goal.returns-in-Err-Failed
-returns-in-Err-Failed g c = record { refused = closed_unsaid _ _ _ _ c.in-Err-Failed.ensures.front c.in-Err-Failed.ensures.cause.later c.in-Err-Failed.ensures.cause.cause }
+returns-in-Err-Failed g c = record {
+  refused = closed_unsaid _ _ _ _ c.in-Err-Failed.ensures.front c.in-Err-Failed.ensures.cause.later c.in-Err-Failed.ensures.cause.cause;
+}

@@ -12,19 +12,22 @@ returns-in-Err g c = record { ended = refused_words _ _ _ _ _ c.in-Err.refusal c
 
 pub returns-in-Both : goal.returns-in-Both
 returns-in-Both g c = record {
-  ended = run_both _ _ _ _ _ _ (both_value c.in-Both.job) (rw c.in-Both.is at c.in-Ok.ensures.work) c.blank.ensures
+  ended = run_both _ _ _ _ _ _ (both_value c.in-Both.job) (rw c.in-Both.is at c.in-Ok.ensures.work)
+      (rw c.in-Both.is at c.in-Ok.ensures.ranges).1 c.blank.ensures
       c.run_both.ensures.ended;
 }
 
 pub returns-in-Gen : goal.returns-in-Gen
 returns-in-Gen g c = record {
-  ended = run_gen _ _ _ _ _ _ (gen_value c.in-Gen.job) (rw c.in-Gen.is at c.in-Ok.ensures.work) c.blank.ensures refl
+  ended = run_gen _ _ _ _ _ _ (gen_value c.in-Gen.job) (rw c.in-Gen.is at c.in-Ok.ensures.work)
+      (rw c.in-Gen.is at c.in-Ok.ensures.ranges).1 c.blank.ensures refl
       c.run_gen.ensures.ended;
 }
 
 pub returns-in-Elf : goal.returns-in-Elf
 returns-in-Elf g c = record {
-  ended = run_programmed _ _ _ _ _ _ (both_elf_value c.in-Elf.job) (rw c.in-Elf.is at c.in-Ok.ensures.work) c.blank.ensures refl
+  ended = run_programmed _ _ _ _ _ _ (both_elf_value c.in-Elf.job) (rw c.in-Elf.is at c.in-Ok.ensures.work)
+      (rw c.in-Elf.is at c.in-Ok.ensures.ranges).1 c.blank.ensures refl
       c.run_elf.ensures.ended;
 }
 

@@ -8,8 +8,9 @@ pub returns-clause-ran : goal.returns-clause-ran
 returns-clause-ran g c =
     let ran = rw c.new-wire.ensures.unread at (rw c.new-wire.ensures.bench at (c.run_session-ended.ensures.ran refl refl)) in
     let up_to = rw c.new-wire.ensures.unread at (rw c.new-wire.ensures.bench at c.run_session-ended.ensures.up_to) in
+    let in_time = rw c.new-wire.ensures.unread at (rw c.new-wire.ensures.bench at c.run_session-ended.ensures.never) in
     let went = on_bench c.args.bench.now c.run_session-ended.new.wire.bench.now c.run_session-ended.new.wire.unread.items c.args.script.now _ _
-    c.run_session-ended.result ran up_to in
+    c.run_session-ended.result ran up_to in_time in
     search (rules, went)
 
 pub returns-clause-within : goal.returns-clause-within

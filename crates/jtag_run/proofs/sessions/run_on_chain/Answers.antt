@@ -8,7 +8,7 @@ pub returns-clause-ran : goal.returns-clause-ran
 returns-clause-ran g c =
     let went = on_chain c.args.plan c.args.bench.now c.run_chain_session-ended.new.wire.bench.now _ c.run_chain_session-ended.new.wire.sides
     c.run_chain_session-ended.new.wire.unread.items c.args.script.now _ _ c.run_chain_session-ended.result c.new-chain.ensures.chain
-    (c.run_chain_session-ended.ensures.ran refl refl) c.run_chain_session-ended.ensures.up_to in
+    (c.run_chain_session-ended.ensures.ran refl refl) c.run_chain_session-ended.ensures.up_to c.run_chain_session-ended.ensures.never in
     search (rules, went)
 
 pub returns-clause-within : goal.returns-clause-within

@@ -14,9 +14,10 @@ returns-clause-ran g c =
     let is : NetSeen = record { state = g.N.Net.state now; peer = g.N.Net.peer now; faults = g.N.Net.fault_count now; ends = g.N.Net.end_count now } in
     let ran = rw new.differences at (rw new.unread at (rw new.bench at (rw new.net at (c.run_session-ended.ensures.ran refl refl)))) in
     let up_to = rw new.differences at (rw new.unread at (rw new.bench at (rw new.net at c.run_session-ended.ensures.up_to))) in
+    let in_time = rw new.unread at (rw new.bench at c.run_session-ended.ensures.never) in
     let ties = rw new.net at (ap (λ (t : Ties). t.net) c.run_session-ended.ensures.ties) in
     let went = on_loop c.args.bench.now c.run_session-ended.new.wire.bench.now c.run_session-ended.new.wire.unread.items
-    c.run_session-ended.new.wire.differences c.args.script.now was is _ _ c.run_session-ended.result ran up_to ties
+    c.run_session-ended.new.wire.differences c.args.script.now was is _ _ c.run_session-ended.result ran up_to in_time ties
     (still_alike _ _ _ _ _ _ _ _ _ _ _ (ap (λ t. t.tells_pipe) ties) (ap (λ (t : Ties). t.began) c.run_session-ended.ensures.ties) new.faults new.ends
     c.know_blame.ensures) in
     search (rules, went)

@@ -1,6 +1,6 @@
 use Rattle.jtag_run.specs.Jobs.{both_soft_value}
 use Rattle.jtag_run.proofs.Answered.{if_err}
-use Rattle.jtag_run.proofs.SoftFiles.{prepared_soft_by, soft_image_cause, soft_load_cause, soft_script_cause}
+use Rattle.jtag_run.proofs.SoftFiles.{prepared_soft_by, soft_image_cause}
 use Rattle.jtag_run.proofs.soft.prepare_soft.Goals as goal
 
 pub returns-in_err-image-clause-cause : goal.returns-in_err-image-clause-cause
