@@ -42,6 +42,8 @@ use Rattle.probe_access.specs.BusBlocks.{BusValuesStoreCut}
 use Rattle.probe_access.specs.Cuts.{IfCut, IsLeft, Leaves}
 use Rattle.probe_access.specs.Faults.{access_why}
 use Rattle.probe_run.specs.Told.{told}
+use Rattle.probe_access.specs.Never.{NeverLost}
+use Rattle.probe_access.proofs.NeverLemmas.{lost_then}
 use Rattle.elf_load.specs.declared.element.Element.{Element}
 use Rattle.elf_load.specs.declared.run.Run.{Run}
 use Rattle.elf_load.specs.Runs.{elements_in, in_a_row}
@@ -153,6 +155,11 @@ failed_rises most left all rest r values old mid new g is some rises =
     within_then (6 * length g.done + 14 * length g.runs) (bus_values_rises r.values.items) (6 * length all + 14 * most) old mid new g.rises
     (subst (λ (vs : List ℕ). RunRises vs mid new) is rises) g.fixed
     (omega (arith, g.few, some, long, more_rises g.done r (length g.runs), length-append g.done (elements_in r)))
+
+-- what never comes behind the runs that were stored does not come of the whole
+pub failed_never : (most left : ℕ) (all rest : List Element) (old mid : DmiSeen) (why : AccessFault) → Going most left all rest old mid → NeverLost mid why
+    → NeverLost old why
+failed_never most left all rest old mid why g never = lost_then (6 * length g.done + 14 * length g.runs) old mid why g.rises never
 
 pub failed_keeps : (most left : ℕ) (all rest : List Element) (r : Run) (old mid new : DmiSeen) (why : AccessFault)
     → Going most left all (elements_in r ++ rest) old mid → mid.fault_count ≤ new.fault_count → new.fixed ≡ mid.fixed → StandsUnless new (access_why why)

@@ -9,7 +9,7 @@ use Rattle.elf_load.specs.Elf.{elements, memory_size}
 use Rattle.elf_load.specs.Fields.{segments_of}
 use Rattle.elf_load.specs.Runs.{calls_from, calls_most, elements_in}
 use Rattle.elf_load.proofs.CallLemmas.{calls_of, calls_within, rest_of_calls}
-use Rattle.elf_load.proofs.Failing.{err_carried, failed_cut, failed_keeps, failed_left, failed_made, failed_rises, keeps_carried}
+use Rattle.elf_load.proofs.Failing.{err_carried, failed_cut, failed_keeps, failed_left, failed_made, failed_never, failed_rises, keeps_carried}
 use Rattle.elf_load.proofs.Going.{Going, end_keeps, end_made, end_rises, end_stored, going_as, going_on, going_start}
 use Rattle.elf_load.proofs.SoundLemmas.{memory_fits, memory_most, rest_is_none, rest_of_elements, segment_is_done, segment_lies, segment_small}
 use Rattle.elf_load.proofs.loading.load_elf.Goals as goal
@@ -172,6 +172,7 @@ returns g c =
       ready = ended.ready;
       ready_again = tt;
       rises = end_rises _ _ (elements c.args.file.now) _ _ ended;
+      never = tt;
       keeps = end_keeps _ _ (elements c.args.file.now) _ _ c.bytes_in_memory.result ended;
     }
 
@@ -234,6 +235,12 @@ returns-in_err-bus_store_values-clause-rises g c =
     failed_rises (calls_most (segments_of c.args.file.now)) _ (elements c.args.file.now) _ c.run_at-run.result c.deref.result.now
     (g.D.Dmi.seen c.args.link.now) (g.D.Dmi.seen c.runs.link) (g.D.Dmi.seen c.bus_store_values.new.link)
     here c.deref.ensures.0 (omega (arith, c.run_at-run.ensures.calls)) c.bus_store_values.ensures.rises
+
+pub returns-in_err-bus_store_values-clause-never : goal.returns-in_err-bus_store_values-clause-never
+returns-in_err-bus_store_values-clause-never g c =
+    err_carried c.from_residual.result c.in_err-bus_store_values.field-0.0 _ c.from_residual.ensures.1
+    (failed_never _ _ _ _ (g.D.Dmi.seen c.args.link.now) (g.D.Dmi.seen c.runs.link) c.in_err-bus_store_values.field-0.0 c.runs.invariant.going
+    c.in_err-bus_store_values.ensures.never)
 
 pub returns-in_err-bus_store_values-clause-keeps : goal.returns-in_err-bus_store_values-clause-keeps
 returns-in_err-bus_store_values-clause-keeps g c =

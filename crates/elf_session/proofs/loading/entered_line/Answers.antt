@@ -1,4 +1,6 @@
-use Rattle.std.proofs.Common.{refl}
+use Rattle.elf_session.proofs.NeverLemmas.{slot_lost_then, slots_never}
+use Rattle.debug_model.proofs.RiseLemmas.{within_more, within_then}
+use Rattle.std.proofs.Common.{arith, refl}
 use Rattle.probe_trig.specs.declared.change.Change.TheVariants.{Forget}
 use Rattle.probe_trig.specs.Runs.{ChangesAny}
 use Rattle.probe_session.specs.Failures.{failure_of_trig}
@@ -28,3 +30,27 @@ pub returns-clause-went : goal.returns-clause-went
 returns-clause-went g c =
     entered c.args.halted.now.number c.args.entry c.args.size (gave_true c.if-not-branch.false c.in_ok-set_reg_if_taken.ensures.gave)
     (record { heard = c.in_ok-forget_hits.ensures.did; told = c.in_ok-forget_hits.ensures.forgot })
+
+pub returns-in_err-set_reg_if_taken-clause-rises : goal.returns-in_err-set_reg_if_taken-clause-rises
+returns-in_err-set_reg_if_taken-clause-rises g c =
+    within_more 8 160 _ _ c.set_reg_if_taken.ensures.rises (omega arith)
+
+pub returns-then-not-branch-clause-rises : goal.returns-then-not-branch-clause-rises
+returns-then-not-branch-clause-rises g c =
+    within_more 8 160 _ _ c.set_reg_if_taken.ensures.rises (omega arith)
+
+pub returns-in_err-forget_hits-clause-rises : goal.returns-in_err-forget_hits-clause-rises
+returns-in_err-forget_hits-clause-rises g c =
+    within_then 8 152 160 _ (g.D.Dmi.seen c.set_reg_if_taken.new.link) _ c.set_reg_if_taken.ensures.rises c.forget_hits.ensures.rises
+    c.set_reg_if_taken.ensures.keeps.fixed (omega arith)
+
+pub returns-clause-rises : goal.returns-clause-rises
+returns-clause-rises g c =
+    within_then 8 152 160 _ (g.D.Dmi.seen c.set_reg_if_taken.new.link) _ c.set_reg_if_taken.ensures.rises c.forget_hits.ensures.rises
+    c.set_reg_if_taken.ensures.keeps.fixed (omega arith)
+
+pub returns-in_err-forget_hits-clause-never : goal.returns-in_err-forget_hits-clause-never
+returns-in_err-forget_hits-clause-never g c = if_err _ (failure_of_trig c.in_err-forget_hits.field-0.0) _ c.from_residual-in_err-forget_hits.ensures.1
+    (slots_never (g.D.Dmi.seen c.args.link.now) c.in_err-forget_hits.field-0.0
+    (slot_lost_then 8 (g.D.Dmi.seen c.args.link.now) (g.D.Dmi.seen c.set_reg_if_taken.new.link) c.in_err-forget_hits.field-0.0
+    c.set_reg_if_taken.ensures.rises c.in_err-forget_hits.ensures.never))

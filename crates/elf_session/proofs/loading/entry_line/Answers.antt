@@ -1,3 +1,5 @@
+use Rattle.std.proofs.Common.{arith}
+use Rattle.debug_model.proofs.RiseLemmas.{within_more, within_then}
 use Rattle.probe_session.proofs.LinkLemmas.{if_err}
 use Rattle.probe_session.proofs.OneLine.{if_err_map, if_ok_map, met_as}
 use Rattle.elf_session.specs.Loading.{entering, loading_hart}
@@ -37,3 +39,16 @@ pub returns-in-At-clause-keeps : goal.returns-in-At-clause-keeps
 returns-in-At-clause-keeps g c =
     let m = met_as _ _ _ c.in-At.is c.in_ok-line.ensures.met in
     goes_loaded c.in-At.halted.number _ _ _ _ m.0 c.meet.ensures.keeps.later c.meet.ensures.keeps.fixed c.entered_line.ensures.keeps
+
+pub returns-in_err-line-clause-rises : goal.returns-in_err-line-clause-rises
+returns-in_err-line-clause-rises g c =
+    within_more 2 162 _ _ c.meet.ensures.rises (omega arith)
+
+pub returns-in-Says-clause-rises : goal.returns-in-Says-clause-rises
+returns-in-Says-clause-rises g c =
+    within_more 2 162 _ _ c.meet.ensures.rises (omega arith)
+
+pub returns-in-At-clause-rises : goal.returns-in-At-clause-rises
+returns-in-At-clause-rises g c =
+    within_then 2 160 162 _ (g.D.Dmi.seen c.meet.new.link) _ c.meet.ensures.rises c.entered_line.ensures.rises
+    c.meet.ensures.keeps.fixed (omega arith)
