@@ -4,4 +4,4 @@ pub mod LoadingSteps
 pub mod Following
 pub mod Plans
 pub mod Laying
-pub mod NeverLemmas
+pub mod Budgets

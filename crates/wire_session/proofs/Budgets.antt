@@ -39,7 +39,7 @@ same_front : (mid new : Option Far) → SentFront quit mid new → SameChip mid 
 same_front None new is = is
 same_front (Some f) new s = (sent s.0 f, s.3, front_chip f s.0 s.1 s.2)
 
-closes_chip : (mid new : WireSeen) (end closed : End) → Closes mid new end closed → SameChip mid.far new.far
+pub closes_chip : (mid new : WireSeen) (end closed : End) → Closes mid new end closed → SameChip mid.far new.far
 closes_chip mid new end closed (behind_fault sends is same) = same_here mid.far new.far (ap (λ (w : WireSeen). w.far) same)
 closes_chip mid new end closed (quitted sends is done) = same_sent mid.far new.far done.far
 closes_chip mid new end closed (unquitted why sends is done) = same_front mid.far new.far done.far
@@ -57,7 +57,7 @@ within_same : (slack : Option ℕ) (n : ℕ) (c : Chip) (mid new : Option Far) �
 within_same slack n c mid new same p =
     paced_same slack n c p.far new (subst (λ m. SameChip m new) p.is same) p.paced p.most
 
-told_same : (slack : Option ℕ) (n : ℕ) (old mid new : Option Far) → SameChip mid new → WhereTold (λ c now. Paced c.inside → PacedWithin slack n c now) old mid
+pub told_same : (slack : Option ℕ) (n : ℕ) (old mid new : Option Far) → SameChip mid new → WhereTold (λ c now. Paced c.inside → PacedWithin slack n c now) old mid
     → WhereTold (λ c now. Paced c.inside → PacedWithin slack n c now) old new
 told_same slack n None mid new same none = subst (λ m. SameChip m new) none same
 told_same slack n (Some f) mid new same told = λ paced. within_same slack n (chip_of f) mid new same (told paced)

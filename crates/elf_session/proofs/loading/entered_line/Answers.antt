@@ -1,4 +1,3 @@
-use Rattle.elf_session.proofs.NeverLemmas.{slot_lost_then, slots_never}
 use Rattle.debug_model.proofs.RiseLemmas.{within_more, within_then}
 use Rattle.std.proofs.Common.{arith, refl}
 use Rattle.probe_trig.specs.declared.change.Change.TheVariants.{Forget}
@@ -6,6 +5,8 @@ use Rattle.probe_trig.specs.Runs.{ChangesAny}
 use Rattle.probe_session.specs.Failures.{failure_of_trig}
 use Rattle.probe_session.proofs.Conversions.{slots_failed}
 use Rattle.probe_session.proofs.LinkLemmas.{if_err}
+use Rattle.probe_session.proofs.NeverLemmas.{by_trig}
+use Rattle.probe_trig.proofs.NeverLemmas.{slot_lost_then}
 use Rattle.probe_session.proofs.SeenLemmas.{gave_false, gave_true}
 use Rattle.elf_session.proofs.Entering.{entered, entry_falls, entry_refused, forget_falls}
 use Rattle.elf_session.proofs.loading.entered_line.Goals as goal
@@ -51,6 +52,6 @@ returns-clause-rises g c =
 
 pub returns-in_err-forget_hits-clause-never : goal.returns-in_err-forget_hits-clause-never
 returns-in_err-forget_hits-clause-never g c = if_err _ (failure_of_trig c.in_err-forget_hits.field-0.0) _ c.from_residual-in_err-forget_hits.ensures.1
-    (slots_never (g.D.Dmi.seen c.args.link.now) c.in_err-forget_hits.field-0.0
+    (by_trig (g.D.Dmi.seen c.args.link.now) c.in_err-forget_hits.field-0.0
     (slot_lost_then 8 (g.D.Dmi.seen c.args.link.now) (g.D.Dmi.seen c.set_reg_if_taken.new.link) c.in_err-forget_hits.field-0.0
     c.set_reg_if_taken.ensures.rises c.in_err-forget_hits.ensures.never))

@@ -7,6 +7,8 @@ use Rattle.probe_session.proofs.ScriptLemmas.{not_opened, opened_plan_ended}
 use Rattle.probe_session.proofs.SinkCauses.{sink_caused}
 use Rattle.probe_session.proofs.EndCauses.{ended_caused}
 use Rattle.elf_session.specs.Loading.{elf_plan}
+use Rattle.probe_session.proofs.NeverLemmas.{ends_then}
+use Rattle.elf_session.proofs.Budgets.{elf_within, opening_within}
 use Rattle.elf_session.proofs.session.run_elf.Goals as goal
 
 -- ---- a chip that was not opened
@@ -84,3 +86,16 @@ returns-in-Ok-clause-sink_cause g c =
     (g.D.Dmi.seen c.load_and_run.new.link).fault_count old new
     (g.K.Sink.fault_count c.args.out.now) (g.K.Sink.fault_count c.load_and_run.new.out) (g.K.Sink.contents c.args.out.now)
     (g.K.Sink.contents c.load_and_run.new.out) (returns-in-Ok-clause-ended g c)
+
+-- ---- in time
+
+pub returns-in-Err-clause-rises : goal.returns-in-Err-clause-rises
+returns-in-Err-clause-rises g c = opening_within c.args.file.now c.args.script.now _ _ c.begin.ensures.rises
+
+pub returns-in-Ok-clause-rises : goal.returns-in-Ok-clause-rises
+returns-in-Ok-clause-rises g c =
+    elf_within c.args.file.now c.args.script.now c.commands.result.now _ (g.D.Dmi.seen c.begin.new.link) _ c.commands.ensures.list c.begin.ensures.rises
+    c.load_and_run.ensures.rises c.begin.ensures.keeps.fixed
+
+pub returns-in-Ok-clause-never : goal.returns-in-Ok-clause-never
+returns-in-Ok-clause-never g c = ends_then 72 (g.D.Dmi.seen c.args.link.now) (g.D.Dmi.seen c.begin.new.link) c.load_and_run.result c.begin.ensures.rises c.load_and_run.ensures.never
