@@ -1,5 +1,5 @@
 -- What does not become of a session where its chip's schedule is fair: of the faults of the layers below, and behind a call.
-use Rattle.std.proofs.Common.{◌≡◌, ℕ, Option, Result, Ok, Err, IfErr, IsErrAnd, sym, subst}
+use Rattle.std.proofs.Common.{◌≡◌, ℕ, Option, Result, Ok, Err, IfErr, sym, subst}
 use Rattle.debug_model.specs.declared.dmi.DmiFault.{DmiFault}
 use Rattle.debug_model.specs.declared.dmi.DmiFault.TheVariants as dmi_fault
 use Rattle.debug_model.specs.Kept.{DmiSeen}
@@ -74,12 +74,6 @@ of_became old (access_fault.Register number) f x is = subst (NeverGivesUp old) (
 of_became old access_fault.StillBusy f x is = subst (NeverGivesUp old) (sym is) x
 of_became old (access_fault.Run why) f x is = of_run old why f x is
 of_became old (access_fault.Odd shown) f x is = subst (NeverGivesUp old) (sym is) tt
-
--- what a `?` hands on
-pub handed_on : {A : Type 0} (old : DmiSeen) (f : Failure) (result : Result A Failure) → IsErrAnd result (λ e. e ≡ f) → NeverGivesUp old f
-    → IfErr result (NeverGivesUp old)
-handed_on old f (Ok x) is never = tt
-handed_on old f (Err e) is never = subst (NeverGivesUp old) (sym is) never
 
 -- ---- behind a call
 
