@@ -50,3 +50,4 @@ pub mod CommonFronts
 pub mod OpenPlans
 pub mod UpTo
 pub mod UpToTold
+pub mod NeverLemmas

@@ -3,6 +3,7 @@ use Rattle.std.proofs.Common.{◌∙◌, ◌+◌, ◌*◌, arith}
 use Rattle.probe_session.proofs.LinkLemmas.{if_err}
 use Rattle.probe_session.proofs.RegisterShow.{all_registers, pc_fell, pc_of_cores, pc_shown, x_fell, x_not_mip, x_of_cores, x_shown}
 use Rattle.probe_session.proofs.Selections.{stays_then}
+use Rattle.probe_session.proofs.NeverLemmas.{gives_up_then}
 use Rattle.probe_session.proofs.all_registers.put_registers.Goals as goal
 
 pub put_register-requires-clause-of : goal.put_register-requires-clause-of
@@ -64,3 +65,9 @@ returns-in_err-put_register-2-clause-rises g c =
 pub returns-clause-rises : goal.returns-clause-rises
 returns-clause-rises g c =
     let up = c.showing.auto.x-end (omega arith) in within_more (16 * c.showing.x) 512 _ _ c.showing.invariant.rises (omega (arith, up))
+
+pub returns-in_err-put_register-2-clause-never : goal.returns-in_err-put_register-2-clause-never
+returns-in_err-put_register-2-clause-never g c =
+    if_err _ c.in_err-put_register-2.field-0.0 _ c.from_residual-in_err-put_register-2.ensures.1
+    (gives_up_then (16 * c.showing.x) _ (g.D.Dmi.seen c.showing.link) c.in_err-put_register-2.field-0.0 c.showing.invariant.rises
+    c.in_err-put_register-2.ensures.never)

@@ -6,6 +6,7 @@ use Rattle.probe_session.proofs.GoingLines.{at_going, behind_falls, err_at, foun
 use Rattle.probe_session.proofs.GoingLines.{read_fell_at, view_falls}
 use Rattle.probe_session.proofs.LinkLemmas.{goes_at, if_err}
 use Rattle.probe_session.proofs.OneLine.{err_then, ok_then}
+use Rattle.probe_session.proofs.NeverLemmas.{behind_then, gives_up_then}
 use Rattle.probe_session.proofs.going.let_go_over_line.Goals as goal
 
 pub returns-in_err-seen-clause-falls : goal.returns-in_err-seen-clause-falls
@@ -102,3 +103,28 @@ returns-clause-rises g c =
     (g.D.Dmi.seen c.slots.new.link) _ c.slots.ensures.rises c.step_over.ensures.rises c.slots.ensures.keeps.fixed (omega arith)) c.reg.ensures.rises
     (c.step_over.ensures.keeps.fixed ∙ c.slots.ensures.keeps.fixed) (omega arith)) c.stop_line.ensures.rises (c.reg.ensures.keeps.fixed ∙
     c.step_over.ensures.keeps.fixed ∙ c.slots.ensures.keeps.fixed) (omega arith)
+
+pub returns-then-not-has_any-clause-never : goal.returns-then-not-has_any-clause-never
+returns-then-not-has_any-clause-never g c =
+    behind_then 184 _ (g.D.Dmi.seen c.slots.new.link) _ c.slots.ensures.rises c.free_line.ensures.never
+
+pub returns-in_err-again-clause-never : goal.returns-in_err-again-clause-never
+returns-in_err-again-clause-never g c =
+    if_err _ c.in_err-again.field-0.0 _ c.from_residual-in_err-again.ensures.1
+    (gives_up_then 184 _ (g.D.Dmi.seen c.slots.new.link) c.in_err-again.field-0.0 c.slots.ensures.rises c.in_err-again.ensures.never)
+
+pub returns-in_err-word-clause-never : goal.returns-in_err-word-clause-never
+returns-in_err-word-clause-never g c =
+    if_err _ c.in_err-word.field-0.0 _ c.from_residual-in_err-word.ensures.1
+    (gives_up_then 184 _ (g.D.Dmi.seen c.slots.new.link) c.in_err-word.field-0.0 c.slots.ensures.rises
+    (gives_up_then 369 _ (g.D.Dmi.seen c.step_over.new.link) c.in_err-word.field-0.0 c.step_over.ensures.rises c.in_err-word.ensures.never))
+
+pub returns-then-shows_step-clause-never : goal.returns-then-shows_step-clause-never
+returns-then-shows_step-clause-never g c =
+    behind_then 184 _ (g.D.Dmi.seen c.slots.new.link) _ c.slots.ensures.rises (behind_then 369 _ (g.D.Dmi.seen c.step_over.new.link) _ c.step_over.ensures.rises
+    (behind_then 16 _ (g.D.Dmi.seen c.reg.new.link) _ c.reg.ensures.rises c.free_line-then-shows_step.ensures.never))
+
+pub returns-clause-never : goal.returns-clause-never
+returns-clause-never g c =
+    behind_then 184 _ (g.D.Dmi.seen c.slots.new.link) _ c.slots.ensures.rises (behind_then 369 _ (g.D.Dmi.seen c.step_over.new.link) _ c.step_over.ensures.rises
+    (behind_then 16 _ (g.D.Dmi.seen c.reg.new.link) _ c.reg.ensures.rises c.stop_line.ensures.never))

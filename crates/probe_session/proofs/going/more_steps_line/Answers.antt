@@ -9,6 +9,7 @@ use Rattle.probe_session.proofs.GoingLines.{stepped_all, stepped_next, stepped_o
 use Rattle.probe_session.proofs.LinkLemmas.{goes_at, if_err}
 use Rattle.probe_session.proofs.OneLine.{err_then, ok_then}
 use Rattle.probe_session.proofs.Whole.{whole_at}
+use Rattle.probe_session.proofs.NeverLemmas.{behind_then, gives_up_then}
 use Rattle.probe_session.proofs.going.more_steps_line.Goals as goal
 
 pub stepping-init : goal.stepping-init
@@ -113,3 +114,19 @@ returns-clause-rises g c =
     within_then (50 * c.stepping._step) 210 (50 * c.args.more + 210) _ (g.D.Dmi.seen c.stepping.link) _ c.stepping.invariant.rises
     c.stop_line-2.ensures.rises
     c.stepping.invariant.fixed (omega arith)
+
+pub returns-in_err-word-clause-never : goal.returns-in_err-word-clause-never
+returns-in_err-word-clause-never g c =
+    if_err _ c.in_err-word.field-0.0 _ c.from_residual.ensures.1
+    (gives_up_then (50 * c.stepping._step) _ (g.D.Dmi.seen c.stepping.link) c.in_err-word.field-0.0 c.stepping.invariant.rises c.in_err-word.ensures.never)
+
+pub returns-then-not-shows_step-clause-never : goal.returns-then-not-shows_step-clause-never
+returns-then-not-shows_step-clause-never g c =
+    behind_then (50 * c.stepping._step) _ (g.D.Dmi.seen c.stepping.link) _ c.stepping.invariant.rises
+    (behind_then 16 _ (g.D.Dmi.seen c.reg.new.link) _ c.reg.ensures.rises c.stop_line.ensures.never)
+
+pub returns-in_err-now-clause-never : goal.returns-in_err-now-clause-never
+returns-in_err-now-clause-never g c =
+    if_err _ c.in_err-now.field-0.0 _ c.from_residual-in_err-now.ensures.1
+    (gives_up_then (50 * c.stepping._step) _ (g.D.Dmi.seen c.stepping.link) c.in_err-now.field-0.0 c.stepping.invariant.rises
+    (gives_up_then 16 _ (g.D.Dmi.seen c.reg.new.link) c.in_err-now.field-0.0 c.reg.ensures.rises c.in_err-now.ensures.never))

@@ -7,6 +7,7 @@ use Rattle.probe_session.proofs.GoingLines.{on_ok_map, once, once_falls, once_fr
 use Rattle.probe_session.proofs.Knowing.{knows_step}
 use Rattle.probe_session.proofs.LinkLemmas.{if_err}
 use Rattle.probe_session.proofs.OneLine.{if_err_map}
+use Rattle.probe_session.proofs.NeverLemmas.{behind_then}
 use Rattle.probe_session.proofs.going.step_once.Goals as goal
 
 pub returns-then-is_stepped-clause-went : goal.returns-then-is_stepped-clause-went
@@ -64,3 +65,11 @@ returns-then-shows_step-clause-rises g c =
 pub returns-else-shows_step-clause-rises : goal.returns-else-shows_step-clause-rises
 returns-else-shows_step-clause-rises g c =
     within_then 16 369 385 _ (g.D.Dmi.seen c.reg.new.link) _ c.reg.ensures.rises c.step_over.ensures.rises c.reg.ensures.keeps.fixed (omega arith)
+
+pub returns-then-shows_step-clause-never : goal.returns-then-shows_step-clause-never
+returns-then-shows_step-clause-never g c =
+    behind_then 16 _ (g.D.Dmi.seen c.reg.new.link) _ c.reg.ensures.rises c.step_from.ensures.never
+
+pub returns-else-shows_step-clause-never : goal.returns-else-shows_step-clause-never
+returns-else-shows_step-clause-never g c =
+    behind_then 16 _ (g.D.Dmi.seen c.reg.new.link) _ c.reg.ensures.rises c.step_over.ensures.never

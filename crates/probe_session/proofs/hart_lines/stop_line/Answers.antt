@@ -3,6 +3,7 @@ use Rattle.std.proofs.Common.{◌∙◌, sym, arith}
 use Rattle.probe_session.proofs.HartLines.{stop_falls, stop_plain, stop_trigger, stop_view_falls}
 use Rattle.probe_session.proofs.LinkLemmas.{if_err}
 use Rattle.probe_session.proofs.Whole.{says_found, says_trigger}
+use Rattle.probe_session.proofs.NeverLemmas.{gives_up_then}
 use Rattle.probe_session.proofs.hart_lines.stop_line.Goals as goal
 
 pub returns-in_err-at-clause-falls : goal.returns-in_err-at-clause-falls
@@ -41,3 +42,8 @@ returns-then-at-number-clause-rises g c =
 pub returns-clause-rises : goal.returns-clause-rises
 returns-clause-rises g c =
     within_more 26 210 _ _ c.stop.ensures.rises (omega arith)
+
+pub returns-in_err-seen-clause-never : goal.returns-in_err-seen-clause-never
+returns-in_err-seen-clause-never g c =
+    if_err _ c.in_err-seen.field-0.0 _ c.from_residual-in_err-seen.ensures.1
+    (gives_up_then 26 _ (g.D.Dmi.seen c.stop.new.link) c.in_err-seen.field-0.0 c.stop.ensures.rises c.in_err-seen.ensures.never)

@@ -10,6 +10,7 @@ use Rattle.probe_session.proofs.HartLines.{forget_falls, write_falls, write_refu
 use Rattle.probe_session.proofs.LinkLemmas.{if_err}
 use Rattle.probe_session.proofs.OneLine.{err_then, ok_then}
 use Rattle.probe_session.proofs.SeenLemmas.{gave_false, gave_true}
+use Rattle.probe_session.proofs.NeverLemmas.{behind_then, by_trig, gives_up_then}
 use Rattle.probe_session.proofs.hart_lines.written_register_line.Goals as goal
 
 pub returns-in_err-set_reg_if_taken-clause-falls : goal.returns-in_err-set_reg_if_taken-clause-falls
@@ -79,3 +80,14 @@ pub returns-clause-rises : goal.returns-clause-rises
 returns-clause-rises g c =
     within_then 8 16 176 _ (g.D.Dmi.seen c.set_reg_if_taken.new.link) _ c.set_reg_if_taken.ensures.rises c.register_line-2.ensures.rises
     c.set_reg_if_taken.ensures.keeps.fixed (omega arith)
+
+pub returns-in_err-forget_hits-clause-never : goal.returns-in_err-forget_hits-clause-never
+returns-in_err-forget_hits-clause-never g c =
+    if_err _ (failure_of_trig c.in_err-forget_hits.field-0.0) _ c.from_residual-in_err-forget_hits.ensures.1
+    (gives_up_then 8 _ (g.D.Dmi.seen c.set_reg_if_taken.new.link) (failure_of_trig c.in_err-forget_hits.field-0.0) c.set_reg_if_taken.ensures.rises
+    (by_trig (g.D.Dmi.seen c.set_reg_if_taken.new.link) c.in_err-forget_hits.field-0.0 c.in_err-forget_hits.ensures.never))
+
+pub returns-then-number-eq-DPC-clause-never : goal.returns-then-number-eq-DPC-clause-never
+returns-then-number-eq-DPC-clause-never g c =
+    behind_then 8 _ (g.D.Dmi.seen c.set_reg_if_taken.new.link) _ c.set_reg_if_taken.ensures.rises
+    (behind_then 152 (g.D.Dmi.seen c.set_reg_if_taken.new.link) (g.D.Dmi.seen c.forget_hits.new.link) _ c.forget_hits.ensures.rises c.register_line.ensures.never)

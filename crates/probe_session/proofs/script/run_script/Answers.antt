@@ -10,6 +10,7 @@ use Rattle.probe_session.proofs.SinkCauses.{sink_caused}
 use Rattle.probe_session.proofs.EndCauses.{ended_caused}
 use Rattle.probe_session.proofs.UpTo.{opened_up_to, unopened_up_to}
 use Rattle.probe_session.proofs.UpToTold.{ended_up_to}
+use Rattle.probe_session.proofs.NeverLemmas.{ends_then}
 use Rattle.probe_session.proofs.script.run_script.Goals as goal
 
 pub returns-in-Err-clause-ended : goal.returns-in-Err-clause-ended
@@ -105,3 +106,7 @@ pub returns-in-Ok-clause-rises : goal.returns-in-Ok-clause-rises
 returns-in-Ok-clause-rises g c =
     script_within c.args.script.now c.commands.result.now _ (g.D.Dmi.seen c.begin.new.link) _ c.commands.ensures.list c.begin.ensures.rises
     c.run_commands.ensures.rises c.begin.ensures.keeps.fixed
+
+pub returns-in-Ok-clause-never : goal.returns-in-Ok-clause-never
+returns-in-Ok-clause-never g c =
+    ends_then 72 _ (g.D.Dmi.seen c.begin.new.link) _ c.begin.ensures.rises c.run_commands.ensures.never

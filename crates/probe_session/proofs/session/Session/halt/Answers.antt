@@ -7,6 +7,7 @@ use Rattle.probe_session.proofs.LinkLemmas.{goes_at, if_err}
 use Rattle.probe_session.proofs.OneLine.{halt_absent, halt_falls, halt_halted, halt_made, halt_made_falls, if_err_map, if_ok_map, of_halted}
 use Rattle.probe_session.proofs.OneLine.{of_running, stops, stops_falls}
 use Rattle.probe_session.proofs.SeenLemmas.{saw_as}
+use Rattle.probe_session.proofs.NeverLemmas.{behind_then, by_run, gives_up_then}
 use Rattle.probe_session.proofs.session.Session.halt.Goals as goal
 
 pub returns-in_err-look-clause-falls : goal.returns-in_err-look-clause-falls
@@ -91,3 +92,14 @@ pub returns-in-Halted-clause-rises : goal.returns-in-Halted-clause-rises
 returns-in-Halted-clause-rises g c =
     within_then 2 210 215 _ (g.D.Dmi.seen c.look.new.link) _ c.look.ensures.rises c.stop_line-in-Halted.ensures.rises c.look.ensures.keeps.fixed (omega
     arith)
+
+pub returns-in_err-halted-in-Running-clause-never : goal.returns-in_err-halted-in-Running-clause-never
+returns-in_err-halted-in-Running-clause-never g c =
+    if_err _ (failure_of_run c.in_err-halted-in-Running.field-0.0) _ c.from_residual-in_err-halted-in-Running.ensures.1
+    (gives_up_then 2 _ (g.D.Dmi.seen c.look.new.link) (failure_of_run c.in_err-halted-in-Running.field-0.0) c.look.ensures.rises
+    (by_run (g.D.Dmi.seen c.look.new.link) c.in_err-halted-in-Running.field-0.0 c.in_err-halted-in-Running.ensures.never))
+
+pub returns-in_ok-halted-in-Running-clause-never : goal.returns-in_ok-halted-in-Running-clause-never
+returns-in_ok-halted-in-Running-clause-never g c =
+    behind_then 2 _ (g.D.Dmi.seen c.look.new.link) _ c.look.ensures.rises
+    (behind_then 3 _ (g.D.Dmi.seen c.halt.new.link) _ c.halt.ensures.rises c.stop_line.ensures.never)

@@ -6,6 +6,7 @@ use Rattle.probe_session.proofs.Knowing.{known_beside, knows_as, shown_knows}
 use Rattle.probe_session.proofs.LinkLemmas.{if_err}
 use Rattle.probe_session.proofs.ShownLines.{done_some, shown_fell, shown_spoke}
 use Rattle.probe_session.proofs.Spoken.{fell_first}
+use Rattle.probe_session.proofs.NeverLemmas.{gives_up_then}
 use Rattle.probe_session.proofs.session.Session.perform_and_show.Goals as goal
 
 pub returns-in_err-done-clause-fell : goal.returns-in_err-done-clause-fell
@@ -59,3 +60,9 @@ pub returns-clause-rises : goal.returns-clause-rises
 returns-clause-rises g c =
     within_then (rises_up_to c.args.command) (rises_of_shown c.in-Some.shown) (command_rises c.args.command) _ (g.D.Dmi.seen c.perform.new.link) _
     c.perform.ensures.rises c.show.ensures.rises c.perform.ensures.keeps.fixed (shown_few c.args.command _ c.in-Some.is c.in_ok-done.ensures.few)
+
+pub returns-in_err-show-clause-never : goal.returns-in_err-show-clause-never
+returns-in_err-show-clause-never g c =
+    if_err _ c.in_err-show.field-0.0 _ c.from_residual-in_err-show.ensures.1
+    (gives_up_then (rises_up_to c.args.command) _ (g.D.Dmi.seen c.perform.new.link) c.in_err-show.field-0.0 c.perform.ensures.rises
+    c.in_err-show.ensures.never)

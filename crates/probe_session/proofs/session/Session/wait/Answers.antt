@@ -6,6 +6,7 @@ use Rattle.probe_session.proofs.LinkLemmas.{goes_at, if_err}
 use Rattle.probe_session.proofs.OneLine.{if_err_map, if_ok_map, of_halted, stops, stops_falls, waited_absent, waited_again, waited_falls}
 use Rattle.probe_session.proofs.OneLine.{waited_halted, waited_none, waited_out}
 use Rattle.probe_session.proofs.SeenLemmas.{saw_as}
+use Rattle.probe_session.proofs.NeverLemmas.{behind_then, gives_up_then}
 use Rattle.probe_session.proofs.session.Session.wait.Goals as goal
 
 pub looking-init : goal.looking-init
@@ -92,3 +93,13 @@ returns-in-Halted-clause-rises g c =
 pub returns-clause-rises : goal.returns-clause-rises
 returns-clause-rises g c =
     within_more (2 * c.looking._look) (2 * c.args.looks + 210) _ _ c.looking.invariant.rises (omega arith)
+
+pub returns-in_err-look-clause-never : goal.returns-in_err-look-clause-never
+returns-in_err-look-clause-never g c =
+    if_err _ c.in_err-look.field-0.0 _ c.from_residual.ensures.1
+    (gives_up_then (2 * c.looking._look) _ (g.D.Dmi.seen c.looking.link) c.in_err-look.field-0.0 c.looking.invariant.rises c.in_err-look.ensures.never)
+
+pub returns-in-Halted-clause-never : goal.returns-in-Halted-clause-never
+returns-in-Halted-clause-never g c =
+    behind_then (2 * c.looking._look) _ (g.D.Dmi.seen c.looking.link) _ c.looking.invariant.rises
+    (behind_then 2 _ (g.D.Dmi.seen c.look.new.link) _ c.look.ensures.rises c.stop_line.ensures.never)

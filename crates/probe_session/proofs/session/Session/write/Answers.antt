@@ -8,6 +8,7 @@ use Rattle.probe_session.proofs.Knowing.{still_knows}
 use Rattle.probe_session.proofs.LinkLemmas.{if_err}
 use Rattle.probe_session.proofs.MemoryLines.{reach_falls, reach_goes, reach_goes_falls, reach_says, reached_as}
 use Rattle.probe_session.proofs.OneLine.{if_err_map, if_ok_map}
+use Rattle.probe_session.proofs.NeverLemmas.{behind_then}
 use Rattle.probe_session.proofs.session.Session.write.Goals as goal
 
 pub returns-in_err-line-clause-falls : goal.returns-in_err-line-clause-falls
@@ -44,3 +45,7 @@ returns-in-By-clause-rises g c =
     within_then 2 (store_rises c.args.count) (store_rises c.args.count + 2) _ (g.D.Dmi.seen c.reach.new.link) _ c.reach.ensures.rises
     c.written_line.ensures.rises
     c.reach.ensures.keeps.fixed (omega arith)
+
+pub returns-in-By-clause-never : goal.returns-in-By-clause-never
+returns-in-By-clause-never g c =
+    behind_then 2 _ (g.D.Dmi.seen c.reach.new.link) _ c.reach.ensures.rises c.written_line.ensures.never
